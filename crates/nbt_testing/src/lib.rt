@@ -7,8 +7,8 @@ mod memory;
 mod packets;
 mod pieces;
 
-pub use limits::{config, moment, started};
-pub use memory::{Row, clock, expect_sent, port};
+pub use limits::{config, started};
+pub use memory::{Row, clock, port, sent_all};
 pub use packets::{
     EVERY_KIND, FIRST, FOUND, GRANTED, NOT_FOUND, QUERY, REFRESH, REFUSED, REGISTRATION, RELEASE,
     RIVAL, SECOND, one_of_many, registration_of_many,

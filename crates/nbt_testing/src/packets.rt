@@ -1,7 +1,6 @@
 //! Worked packets of every kind (RFC 1002 section 4.2).
 
-use crate::pieces::octets;
-use std::test::Fail;
+use crate::pieces::{octets, put};
 
 pub const FIRST: u32 = 0x7F000002;
 
@@ -51,7 +50,7 @@ pub fn one_of_many<R: AllocGlobal>(
     number: u16,
     head: &str,
     tail: &str,
-) -> Result<Vec<u8>, Fail> {
+) -> Result<Vec<u8>, &'static str> {
     let head = octets(rt, head)?;
     let tail = octets(rt, tail)?;
     let [high, low] = number.to_be_bytes();
@@ -62,16 +61,16 @@ pub fn one_of_many<R: AllocGlobal>(
         b'A' + low % 16,
     ];
     let mut packet = Vec::new(rt.alloc());
-    packet.extend_from_slice(&number.to_be_bytes())?;
-    packet.extend_from_slice(head.as_slice())?;
-    packet.extend_from_slice(b" EOEOEOEOEOEOEOEOEOEOEOEOEOEO")?;
-    packet.extend_from_slice(&letters)?;
-    packet.extend_from_slice(tail.as_slice())?;
+    put(&mut packet, &number.to_be_bytes())?;
+    put(&mut packet, head.as_slice())?;
+    put(&mut packet, b" EOEOEOEOEOEOEOEOEOEOEOEOEOEO")?;
+    put(&mut packet, &letters)?;
+    put(&mut packet, tail.as_slice())?;
     Ok(packet)
 }
 
 /// The registration of one of 65,536 names by 127.0.0.2.
-pub fn registration_of_many<R: AllocGlobal>(rt: &R, number: u16) -> Result<Vec<u8>, Fail> {
+pub fn registration_of_many<R: AllocGlobal>(rt: &R, number: u16) -> Result<Vec<u8>, &'static str> {
     one_of_many(
         rt,
         number,

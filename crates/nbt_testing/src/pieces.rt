@@ -1,7 +1,9 @@
 //! Pieces of packets by their names.
 
 use nbt_text::octets_of;
-use std::test::Fail;
+
+/// Why there are no octets, where memory was refused.
+pub const REFUSED_MEMORY: &str = "memory was refused";
 
 /// Pieces of packets by their names (RFC 1002 section 4.2). `FRED`, `TEAM` and `STAR` are names on the wire, and `again`
 /// is a pointer to the question's; the longest scope is three labels of 63 octets and one of 28, so that the name has 255.
@@ -75,13 +77,21 @@ const PIECES: [(&str, &str); 32] = [
 ];
 
 /// The octets that words say: pieces by their names, and all else in hexadecimal.
-pub fn octets<R: AllocGlobal>(rt: &R, text: &str) -> Result<Vec<u8>, Fail> {
+pub fn octets<R: AllocGlobal>(rt: &R, text: &str) -> Result<Vec<u8>, &'static str> {
     let mut octets = Vec::new(rt.alloc());
     for word in text.split(' ') {
-        let piece = octets_of(rt.alloc(), digits(word).as_bytes())?;
-        octets.extend_from_slice(piece.ok_or("no octets")?.as_slice())?;
+        let piece = octets_of(rt.alloc(), digits(word).as_bytes())
+            .ok()
+            .ok_or(REFUSED_MEMORY)?
+            .ok_or("no octets")?;
+        put(&mut octets, piece.as_slice())?;
     }
     Ok(octets)
+}
+
+/// Puts octets behind others.
+pub fn put(octets: &mut Vec<u8>, piece: &[u8]) -> Result<(), &'static str> {
+    octets.extend_from_slice(piece).ok().ok_or(REFUSED_MEMORY)
 }
 
 fn digits(word: &str) -> &str {

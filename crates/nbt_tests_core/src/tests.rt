@@ -2,7 +2,7 @@
 
 use nbt_lease::Moment;
 use nbt_name::Name;
-use std::test::Fail;
+use std::process::Abort;
 
 mod calls;
 mod datagrams;
@@ -22,35 +22,31 @@ const TEAM: &[u8; 16] = b"TEAM            ";
 
 const STAR: &[u8; 16] = b"*\0\0\0\0\0\0\0\0\0\0\0\0\0\0\0";
 
-fn at(ms: u64) -> Result<Moment, Fail> {
-    Ok(Moment::new(ms).ok_or("past the last moment")?)
+fn at(rt: &impl Abort, ms: u64) -> Moment {
+    Moment::new(ms).expect(rt, "a moment")
 }
 
-fn fred(scope: &[u8]) -> Result<Name, Fail> {
-    Ok(Name::new(FRED, scope)?)
+fn fred(rt: &impl Abort, scope: &[u8]) -> Name {
+    Name::new(FRED, scope).expect(rt, "a name")
 }
 
-fn team(scope: &[u8]) -> Result<Name, Fail> {
-    Ok(Name::new(TEAM, scope)?)
+fn team(rt: &impl Abort, scope: &[u8]) -> Name {
+    Name::new(TEAM, scope).expect(rt, "a name")
 }
 
 /// The name of these octets, which may be those that stand for all.
-fn name_of(octets: &[u8; 16]) -> Result<Name, Fail> {
+fn name_of(rt: &impl Abort, octets: &[u8; 16]) -> Name {
     if octets == STAR {
-        return Ok(Name::any(b"")?);
+        return Name::any(b"").expect(rt, "a name");
     }
-    Ok(Name::new(octets, b"")?)
+    Name::new(octets, b"").expect(rt, "a name")
 }
 
 /// The octets with others at some places.
-fn patched<R: AllocGlobal>(
-    rt: &R,
-    octets: &[u8],
-    patches: &[(usize, u8)],
-) -> Result<Vec<u8>, Fail> {
-    let mut copy = Vec::from_slice(rt.alloc(), octets)?;
+fn patched<R: Abort + AllocGlobal>(rt: &R, octets: &[u8], patches: &[(usize, u8)]) -> Vec<u8> {
+    let mut copy = Vec::from_slice(rt.alloc(), octets).expect(rt, "memory");
     for (place, octet) in patches {
-        *copy.get_mut(*place).ok_or("a place behind the octets")? = *octet;
+        *copy.get_mut(*place).expect(rt, "a place in the octets") = *octet;
     }
-    Ok(copy)
+    copy
 }

@@ -1,7 +1,9 @@
 //! Rows of worked examples, and the players that run them.
 
+use nbt_lease::{Config, Moment};
 use nbt_name::Name;
-use std::test::Fail;
+use nbt_store::{Boot, Header};
+use std::process::Abort;
 
 mod counting;
 mod disks;
@@ -19,10 +21,25 @@ const FRED: &[u8; 16] = b"FRED            ";
 
 const TEAM: &[u8; 16] = b"TEAM            ";
 
-fn fred(scope: &[u8]) -> Result<Name, Fail> {
-    Ok(Name::new(FRED, scope)?)
+fn fred(rt: &impl Abort, scope: &[u8]) -> Name {
+    Name::new(FRED, scope).expect(rt, "a name")
 }
 
-fn team(scope: &[u8]) -> Result<Name, Fail> {
-    Ok(Name::new(TEAM, scope)?)
+fn team(rt: &impl Abort, scope: &[u8]) -> Name {
+    Name::new(TEAM, scope).expect(rt, "a name")
+}
+
+/// The head of a file that was written in the boot `boot-1` by a server that started at 5, whose last moment this is; the time of day was
+/// 1,700,000,000,000 ms.
+fn header(rt: &impl Abort, last: u64) -> Header {
+    let boot = Boot::new(b"boot-1").expect(rt, "a boot");
+    let config = Config::new(1000, 60, 4096).expect(rt, "limits");
+    Header::new(
+        config,
+        boot,
+        7,
+        Moment::new(5).expect(rt, "a moment"),
+        Moment::new(last).expect(rt, "a moment"),
+        1_700_000_000_000,
+    )
 }

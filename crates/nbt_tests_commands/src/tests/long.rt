@@ -7,7 +7,6 @@ use nbt_sim::play;
 use nbt_testing::octets;
 use nbt_text::{lines_of, octets_of, words_of, words_said, write_hexadecimal};
 use std::process::Abort;
-use std::test::Fail;
 
 /// An input, what comes of it, and what is to come of it.
 #[derive(Drop)]
@@ -113,16 +112,15 @@ fn expect_events<R: Abort>(rt: &R, texts: &mut Texts) {
 }
 
 /// 300 entries, more than any datagram of 1,500 octets has.
-fn expect_reply<R: Abort + AllocGlobal>(rt: &R, texts: &mut Texts) -> Result<(), Fail> {
+fn expect_reply<R: Abort + AllocGlobal>(rt: &R, texts: &mut Texts) {
     texts.clear();
     push(rt, 1, "0008 8580 reply TEAM NB 60s 0708", &mut texts.input);
     push(rt, 300, " a000 127.0.0.2", &mut texts.input);
     push(rt, 300, "127.0.0.2 group\n", &mut texts.wanted);
-    let reply = octets(rt, texts.input.as_str())?;
+    let reply = octets(rt, texts.input.as_str()).expect(rt, "octets");
     let told = write_reply(reply.as_slice(), &mut texts.got).expect(rt, "memory");
     expect_eq(rt, &"a reply", &told, &Reply::Found);
     expect_wanted(rt, "entries", texts);
-    Ok(())
 }
 
 /// What the picture of a hundred and one names has. Seventeen lines of names stand above the headings of the columns.
@@ -165,7 +163,7 @@ fn expect_names<R: Abort>(rt: &R, texts: &mut Texts) {
 }
 
 #[test]
-fn long_inputs(rt: HostRuntime) -> Result<(), Fail> {
+fn long_inputs(rt: HostRuntime) {
     let mut texts = Texts {
         input: String::new(rt.alloc()),
         got: String::new(rt.alloc()),

@@ -5,7 +5,6 @@ use arrayvec::ArrayVec;
 use nbt_show::{write_dgram, write_packet, write_session};
 use nbt_testing::{EVERY_KIND, octets};
 use std::process::Abort;
-use std::test::Fail;
 
 /// What is printed: a packet, a datagram or a session.
 enum Prints {
@@ -100,14 +99,13 @@ fn expect_packet_cut<R: Abort + AllocGlobal>(
     words: &str,
     text: &mut String,
     wanted: &mut String,
-) -> Result<(), Fail> {
-    let whole = octets(rt, words)?;
+) {
+    let whole = octets(rt, words).expect(rt, "octets");
     expect_cut(rt, &Prints::Packet, whole.as_slice(), text, wanted);
-    Ok(())
 }
 
 #[test]
-fn packets_cut_at_every_length(rt: HostRuntime) -> Result<(), Fail> {
+fn packets_cut_at_every_length(rt: HostRuntime) {
     let mut text = String::new(rt.alloc());
     let mut wanted = String::new(rt.alloc());
     for row in &DATAGRAMS {
@@ -120,7 +118,6 @@ fn packets_cut_at_every_length(rt: HostRuntime) -> Result<(), Fail> {
         expect_cut(&rt, &Prints::Session, whole, &mut text, &mut wanted);
     }
     for words in &KINDS {
-        expect_packet_cut(&rt, words, &mut text, &mut wanted)?;
+        expect_packet_cut(&rt, words, &mut text, &mut wanted);
     }
-    Ok(())
 }

@@ -4,7 +4,6 @@ use super::expect::expect_eq;
 use nbt_show::{Reply, rcode_words, write_reply};
 use nbt_testing::octets;
 use std::process::Abort;
-use std::test::Fail;
 
 /// A reply as words, what it was, and what is told of it.
 type Row = (&'static str, Reply, &'static str);
@@ -130,9 +129,9 @@ static OTHERS: &[Row] = &[
     ("0001 8400 reply STAR NBSTAT 0s 0001 01", Reply::Other, ""),
 ];
 
-fn expect_reply<R: Abort + AllocGlobal>(rt: &R, row: &Row, text: &mut String) -> Result<(), Fail> {
+fn expect_reply<R: Abort + AllocGlobal>(rt: &R, row: &Row, text: &mut String) {
     let (words, reply, expected) = *row;
-    let octets = octets(rt, words)?;
+    let octets = octets(rt, words).expect(rt, "octets");
     text.clear();
     text.push_str("> ").expect(rt, "memory");
     let told = write_reply(octets.as_slice(), text).expect(rt, "memory");
@@ -143,7 +142,6 @@ fn expect_reply<R: Abort + AllocGlobal>(rt: &R, row: &Row, text: &mut String) ->
         &text.as_str().strip_prefix("> "),
         &Some(expected),
     );
-    Ok(())
 }
 
 /// RCODEs in words.
@@ -161,7 +159,7 @@ static RCODES: [(u8, &str); 10] = [
 ];
 
 #[test]
-fn replies(rt: HostRuntime) -> Result<(), Fail> {
+fn replies(rt: HostRuntime) {
     for row in &RCODES {
         let (rcode, words) = *row;
         expect_eq(&rt, &rcode, &rcode_words(rcode), &words);
@@ -169,8 +167,7 @@ fn replies(rt: HostRuntime) -> Result<(), Fail> {
     let mut text = String::new(rt.alloc());
     for rows in [HOLDERS, NOBODY, NAMES, UNIT_IDS, OTHERS] {
         for row in rows {
-            expect_reply(&rt, row, &mut text)?;
+            expect_reply(&rt, row, &mut text);
         }
     }
-    Ok(())
 }

@@ -12,7 +12,6 @@ use nbt_session::{
     Caller, CallerAnswer, Entry, Event, Failure, Full, Listener, ListenerAnswer, laws,
 };
 use std::process::Abort;
-use std::test::Fail;
 
 const FIRST: Addr = Addr {
     ip: 0x7F00_0002,
@@ -37,12 +36,12 @@ enum Happens<'a> {
     Brings(Said<'a>),
 }
 
-fn event<A: AllocGlobal>(rt: &A, happens: Happens<'_>) -> Result<Event, Fail> {
-    Ok(match happens {
+fn event<A: Abort + AllocGlobal>(rt: &A, happens: Happens<'_>) -> Event {
+    match happens {
         Happens::Stands => Event::Connected,
         Happens::IsLost => Event::Lost,
-        Happens::Brings(said) => Event::Packet(packet(rt, said)?),
-    })
+        Happens::Brings(said) => Event::Packet(packet(rt, said)),
+    }
 }
 
 /// What a caller of FRED by TEAM answers.
@@ -57,16 +56,18 @@ enum Calls<'a> {
     Fails(Failure),
 }
 
-fn caller_answer<A: AllocGlobal>(rt: &A, calls: Calls<'_>) -> Result<CallerAnswer, Fail> {
-    Ok(match calls {
+fn caller_answer<A: Abort + AllocGlobal>(rt: &A, calls: Calls<'_>) -> CallerAnswer {
+    match calls {
         Calls::Nothing => CallerAnswer::Nothing,
         Calls::Connects(to) => CallerAnswer::Connect(to),
-        Calls::Sends(said) => CallerAnswer::Send(packet(rt, said)?),
+        Calls::Sends(said) => CallerAnswer::Send(packet(rt, said)),
         Calls::Opens => CallerAnswer::Open,
-        Calls::HandsUp(octets) => CallerAnswer::Up(Vec::from_slice(rt.alloc(), octets)?),
+        Calls::HandsUp(octets) => CallerAnswer::Up(Vec::from_slice(rt.alloc(), octets).expect(
+            rt, "memory",
+        )),
         Calls::Closes => CallerAnswer::Closed,
         Calls::Fails(failure) => CallerAnswer::Fail(failure),
-    })
+    }
 }
 
 /// What comes of a call that began with 127.0.0.2; what happens in turn to it, and what the caller answers.
@@ -190,24 +191,22 @@ fn expect_answer<A: AllocGlobal + Abort>(
     caller: &mut Caller,
     happens: Happens<'_>,
     calls: Calls<'_>,
-) -> Result<(), Fail> {
-    let wanted = caller_answer(rt, calls)?;
-    let answer = caller.on(event(rt, happens)?);
+) {
+    let wanted = caller_answer(rt, calls);
+    let answer = caller.on(event(rt, happens));
     expect_in(rt, place, answer == wanted);
-    Ok(())
 }
 
 #[test]
-fn calls_and_what_comes_of_them(rt: HostRuntime) -> Result<(), Fail> {
+fn calls_and_what_comes_of_them(rt: HostRuntime) {
     laws::one_call_move();
     for (what, steps) in CALLS {
-        let (mut caller, begun) = Caller::begin(fred(b"")?, team(b"")?, FIRST);
+        let (mut caller, begun) = Caller::begin(fred(&rt, b""), team(&rt, b""), FIRST);
         expect(&rt, begun == CallerAnswer::Connect(FIRST));
         for (number, (happens, calls)) in steps.iter().enumerate() {
-            expect_answer(&rt, &(*what, number), &mut caller, *happens, *calls)?;
+            expect_answer(&rt, &(*what, number), &mut caller, *happens, *calls);
         }
     }
-    Ok(())
 }
 
 const NUMBERS: [(Failure, u8); 4] = [
@@ -229,11 +228,12 @@ const REGISTERED: &[u8; 62] =
     b"\x00\x01\xAD\x80\x00\x00\x00\x01\x00\x00\x00\x00 EGFCEFEECACACACACACACACACACACACA\x00\x00\x20\x00\x01\x00\x00\x00\x3C\x00\x06\x20\x00\x7F\x00\x00\x02";
 
 /// The node asks for FRED at 60,000, and holds it by a reply at 60,900.
-fn hold(node: &mut Node<2>, out: &mut ArrayVec<u8, 576>) -> Result<(), Fail> {
-    let fred = fred(b"")?;
-    node.ask(at(60_000)?, &fred, Kind::Unique, 60, out)?;
-    node.on_datagram(at(60_900)?, SERVER, REGISTERED, out)?;
-    Ok(())
+fn hold(rt: &impl Abort, node: &mut Node<2>, out: &mut ArrayVec<u8, 576>) {
+    let fred = fred(rt, b"");
+    node.ask(at(rt, 60_000), &fred, Kind::Unique, 60, out)
+        .expect(rt, "ask");
+    node.on_datagram(at(rt, 60_900), SERVER, REGISTERED, out)
+        .expect(rt, "a reply");
 }
 
 /// What a listener answers.
@@ -247,15 +247,17 @@ enum Listens<'a> {
     HandsUp(&'a [u8]),
 }
 
-fn listener_answer<A: AllocGlobal>(rt: &A, listens: Listens<'_>) -> Result<ListenerAnswer, Fail> {
-    Ok(match listens {
+fn listener_answer<A: Abort + AllocGlobal>(rt: &A, listens: Listens<'_>) -> ListenerAnswer {
+    match listens {
         Listens::Nothing => ListenerAnswer::Nothing,
-        Listens::Takes => ListenerAnswer::Send(packet(rt, Said::Positive)?),
-        Listens::Refuses(code) => ListenerAnswer::SendAndClose(packet(rt, Said::Negative(code))?),
-        Listens::Retargets(to) => ListenerAnswer::SendAndClose(packet(rt, Said::Retarget(to))?),
+        Listens::Takes => ListenerAnswer::Send(packet(rt, Said::Positive)),
+        Listens::Refuses(code) => ListenerAnswer::SendAndClose(packet(rt, Said::Negative(code))),
+        Listens::Retargets(to) => ListenerAnswer::SendAndClose(packet(rt, Said::Retarget(to))),
         Listens::Closes => ListenerAnswer::Close,
-        Listens::HandsUp(octets) => ListenerAnswer::Up(Vec::from_slice(rt.alloc(), octets)?),
-    })
+        Listens::HandsUp(octets) => ListenerAnswer::Up(Vec::from_slice(rt.alloc(), octets).expect(
+            rt, "memory",
+        )),
+    }
 }
 
 /// What is done with a listener of four entries and two connections.
@@ -270,40 +272,40 @@ enum Step<'a> {
 }
 
 /// An entry for FRED.
-fn entry(calling: Option<&[u8; 16]>, retarget: Option<Addr>) -> Result<Entry, Fail> {
+fn entry(rt: &impl Abort, calling: Option<&[u8; 16]>, retarget: Option<Addr>) -> Entry {
     let calling = match calling {
-        Some(octets) => Some(name_of(octets)?),
+        Some(octets) => Some(name_of(rt, octets)),
         None => None,
     };
-    Ok(Entry {
-        called: fred(b"")?,
+    Entry {
+        called: fred(rt, b""),
         calling,
         retarget,
-    })
+    }
 }
 
 /// Whether a step goes so.
-fn play<A: AllocGlobal>(
+fn play<A: Abort + AllocGlobal>(
     rt: &A,
     node: &Node<2>,
     listener: &mut Listener<4, 2>,
     step: Step<'_>,
-) -> Result<bool, Fail> {
-    Ok(match step {
+) -> bool {
+    match step {
         Step::Listen(calling, retarget, wanted) => {
-            let entry = entry(calling, retarget)?;
+            let entry = entry(rt, calling, retarget);
             listener.listen(entry) == wanted
         }
         Step::Unlisten(octets) => {
-            listener.unlisten(&name_of(octets)?);
+            listener.unlisten(&name_of(rt, octets));
             true
         }
         Step::On(now, slot, happens, wanted) => {
-            let now = at(now)?;
-            let wanted = listener_answer(rt, wanted)?;
-            listener.on(now, node, slot.min(1), event(rt, happens)?) == wanted
+            let now = at(rt, now);
+            let wanted = listener_answer(rt, wanted);
+            listener.on(now, node, slot.min(1), event(rt, happens)) == wanted
         }
-    })
+    }
 }
 
 /// An entry of any caller.
@@ -439,25 +441,23 @@ const LISTENERS: &[Row] = &[
 ];
 
 /// The steps of a row, with a new listener.
-fn play_row<A: AllocGlobal + Abort>(rt: &A, node: &Node<2>, row: &Row) -> Result<(), Fail> {
+fn play_row<A: AllocGlobal + Abort>(rt: &A, node: &Node<2>, row: &Row) {
     let mut listener: Listener<4, 2> = Listener::new(row.1.min(2));
     for (number, step) in row.2.iter().enumerate() {
-        let is_so = play(rt, node, &mut listener, *step)?;
+        let is_so = play(rt, node, &mut listener, *step);
         expect_in(rt, &(row.0, number), is_so);
     }
-    Ok(())
 }
 
 #[test]
-fn listeners_and_what_they_answer(rt: HostRuntime) -> Result<(), Fail> {
+fn listeners_and_what_they_answer(rt: HostRuntime) {
     laws::calls_go_to_held_names();
     laws::one_listener_move();
     laws::at_most_so_many_are_open();
-    let config = Config::new(1000, 60, 4096)?;
-    let mut holder: Node<2> = Node::start(FIRST, SERVER, config, at(0)?);
-    hold(&mut holder, &mut ArrayVec::new())?;
+    let config = Config::new(1000, 60, 4096).expect(&rt, "limits");
+    let mut holder: Node<2> = Node::start(FIRST, SERVER, config, at(&rt, 0));
+    hold(&rt, &mut holder, &mut ArrayVec::new());
     for row in LISTENERS {
-        play_row(&rt, &holder, row)?;
+        play_row(&rt, &holder, row);
     }
-    Ok(())
 }

@@ -16,7 +16,6 @@ use nbt_lease::Config;
 use nbt_name::{Addr, Kind};
 use nbt_node::{Event, Node};
 use std::process::Abort;
-use std::test::Fail;
 
 /// Five octets from FRED at 127.0.0.2:138 to the group TEAM, with id 1.
 const HELLO: &[u8] =
@@ -41,39 +40,41 @@ const SECOND_END: Addr = Addr {
 
 /// The packets that these octets of data are split into.
 fn fragments<'a>(
+    rt: &impl Abort,
     delivery: Delivery,
     scope: &[u8],
     payload: &'a [u8],
-) -> Result<Fragments<'a>, Fail> {
-    Ok(split(
+) -> Fragments<'a> {
+    split(
         delivery,
         1,
         FIRST_END,
-        &fred(scope)?,
-        &team(scope)?,
+        &fred(rt, scope),
+        &team(rt, scope),
         payload,
-    )?)
+    )
+    .expect(rt, "split")
 }
 
 /// The octets of a packet.
-fn octets_of(rt: &HostRuntime, packet: &Dgram<'_>) -> Result<Vec<u8>, Fail> {
+fn octets_of(rt: &(impl Abort + AllocGlobal), packet: &Dgram<'_>) -> Vec<u8> {
     if !packet.fits() {
-        return Err("a packet that doesn't fit")?;
+        panic!(rt; "a packet that doesn't fit");
     }
     let mut out = ArrayVec::new();
-    encode(packet, &mut out)?;
-    Ok(Vec::from_slice(rt.alloc(), out.as_slice())?)
+    encode(packet, &mut out).expect(rt, "encoded");
+    Vec::from_slice(rt.alloc(), out.as_slice()).expect(rt, "memory")
 }
 
 /// The octets of the packets that data of 512 octets are split into.
-fn written(rt: &HostRuntime, scope: &[u8]) -> Result<Vec<Vec<u8>>, Fail> {
+fn written(rt: &(impl Abort + AllocGlobal), scope: &[u8]) -> Vec<Vec<u8>> {
     let payload = [7; 512];
-    let packets = fragments(Delivery::DirectGroup, scope, &payload)?;
+    let packets = fragments(rt, Delivery::DirectGroup, scope, &payload);
     let mut all = Vec::new(rt.alloc());
     for packet in packets.as_slice() {
-        all.push(octets_of(rt, packet)?)?;
+        all.push(octets_of(rt, packet)).expect(rt, "memory");
     }
-    Ok(all)
+    all
 }
 
 /// A fragment of a datagram to TEAM with this id.
@@ -91,8 +92,8 @@ fn piece(id: u16, part: Part, more: bool, payload: &[u8]) -> Dgram<'_> {
 }
 
 #[test]
-fn hello_is_read_and_written(rt: HostRuntime) -> Result<(), Fail> {
-    let (dgram, count) = decode(HELLO)?;
+fn hello_is_read_and_written(rt: HostRuntime) {
+    let (dgram, count) = decode(HELLO).expect(&rt, "decoded");
     expect_eq(&rt, &count, &87);
     expect_eq(&rt, &dgram.msg_type().number(), &0x11);
     expect_eq(&rt, &dgram.id, &1);
@@ -100,20 +101,19 @@ fn hello_is_read_and_written(rt: HostRuntime) -> Result<(), Fail> {
     expect(&rt, dgram.has_data());
     expect(&rt, dgram.fits());
     let mut out = ArrayVec::new();
-    encode(&dgram, &mut out)?;
+    encode(&dgram, &mut out).expect(&rt, "encoded");
     expect_eq(&rt, &out.as_slice(), &HELLO);
     let Body::Fragment(fragment) = dgram.body else {
-        return Err("no data")?;
+        panic!(&rt; "no data");
     };
     expect_eq(&rt, &fragment.payload, &b"hello".as_slice());
     expect_eq(&rt, &fragment.part.offset(), &0);
     expect(&rt, !fragment.more);
     let Part::First(names) = fragment.part else {
-        return Err("no names")?;
+        panic!(&rt; "no names");
     };
-    expect_eq(&rt, &names.source, &fred(b"")?);
-    expect_eq(&rt, &names.copy().destination, &team(b"")?);
-    Ok(())
+    expect_eq(&rt, &names.source, &fred(&rt, b""));
+    expect_eq(&rt, &names.copy().destination, &team(&rt, b""));
 }
 
 /// The scope of two names; of the packets that data of 512 octets are split into the lengths, and of some octets, by
@@ -150,39 +150,36 @@ fn expect_split(
     packets: &[Vec<u8>],
     lengths: &[usize],
     octets: &[(usize, usize, u8)],
-) -> Result<(), Fail> {
+) {
     expect_eq(rt, &packets.len(), &2);
     for (packet, length) in packets.iter().zip(lengths) {
         expect_eq(rt, &packet.len(), &*length);
     }
     for (which, place, octet) in octets {
-        let packet = packets.get(*which).ok_or("no such packet")?;
+        let packet = packets.get(*which).expect(rt, "a packet");
         expect_eq_in(rt, &place, &packet.get(*place), &Some(octet));
     }
-    Ok(())
 }
 
 #[test]
-fn data_of_512_octets_are_split(rt: HostRuntime) -> Result<(), Fail> {
+fn data_of_512_octets_are_split(rt: HostRuntime) {
     for (scope, lengths, octets) in SPLITS {
-        let packets = written(&rt, scope)?;
-        expect_split(&rt, packets.as_slice(), lengths, octets)?;
+        let packets = written(&rt, scope);
+        expect_split(&rt, packets.as_slice(), lengths, octets);
     }
-    Ok(())
 }
 
 #[test]
-fn more_than_512_octets_are_too_long(rt: HostRuntime) -> Result<(), Fail> {
-    let source = fred(b"")?;
-    let destination = team(b"")?;
+fn more_than_512_octets_are_too_long(rt: HostRuntime) {
+    let source = fred(&rt, b"");
+    let destination = team(&rt, b"");
     let long = [7; 513];
     let delivery = Delivery::DirectUnique;
     let refused = split(delivery, 1, FIRST_END, &source, &destination, &long);
     expect(&rt, matches!(refused, Err(TooLong)));
     expect_eq(&rt, &TooLong.number(), &1);
-    let packets = fragments(delivery, b"", b"hello")?;
+    let packets = fragments(&rt, delivery, b"", b"hello");
     expect_eq(&rt, &packets.len(), &1);
-    Ok(())
 }
 
 /// What is done with a joiner of one slot, and what that leads to.
@@ -217,11 +214,11 @@ fn outcome_of(joined: Joined<'_>) -> Told {
     }
 }
 
-fn put(joiner: &mut Joiner<1>, ms: u64, dgram: &Dgram<'_>) -> Result<Told, Fail> {
+fn put(rt: &impl Abort, joiner: &mut Joiner<1>, ms: u64, dgram: &Dgram<'_>) -> Told {
     if !dgram.has_data() {
-        return Err("no data")?;
+        panic!(rt; "no data");
     }
-    Ok(outcome_of(joiner.put(at(ms)?, dgram)))
+    outcome_of(joiner.put(at(rt, ms), dgram))
 }
 
 const JOINS: &[(&str, &[u8], &[Step])] = &[
@@ -271,16 +268,16 @@ const JOINS: &[(&str, &[u8], &[Step])] = &[
 ];
 
 /// A packet is put with other octets at some places.
-fn put_patched<R: AllocGlobal>(
+fn put_patched<R: Abort + AllocGlobal>(
     rt: &R,
     joiner: &mut Joiner<1>,
     packet: &[u8],
     patches: &[(usize, u8)],
     ms: u64,
-) -> Result<Told, Fail> {
-    let octets = patched(rt, packet, patches)?;
-    let (dgram, _) = decode(&octets)?;
-    put(joiner, ms, &dgram)
+) -> Told {
+    let octets = patched(rt, packet, patches);
+    let (dgram, _) = decode(&octets).expect(rt, "decoded");
+    put(rt, joiner, ms, &dgram)
 }
 
 /// A step of those of a joiner.
@@ -290,22 +287,21 @@ fn join_step<R: Abort + AllocGlobal>(
     joiner: &mut Joiner<1>,
     packets: &[Vec<u8>],
     step: &Step,
-) -> Result<(), Fail> {
+) {
     match *step {
         Step::Put(which, patches, ms, expected) => {
-            let packet = packets.get(which).ok_or("no such packet")?;
-            let told = put_patched(rt, joiner, packet, patches, ms)?;
+            let packet = packets.get(which).expect(rt, "a packet");
+            let told = put_patched(rt, joiner, packet, patches, ms);
             expect_eq_in(rt, &what, &told, &expected);
         }
         Step::Piece(id, offset, more, expected) => {
-            let dgram = piece(id, part_at(offset)?, more, b"ab");
-            expect_eq_in(rt, &what, &put(joiner, 0, &dgram)?, &expected);
+            let dgram = piece(id, part_at(rt, offset), more, b"ab");
+            expect_eq_in(rt, &what, &put(rt, joiner, 0, &dgram), &expected);
         }
         Step::Sweep(ms, emptied) => {
-            expect_eq_in(rt, &what, &joiner.sweep(at(ms)?), &emptied);
+            expect_eq_in(rt, &what, &joiner.sweep(at(rt, ms)), &emptied);
         }
     }
-    Ok(())
 }
 
 /// The steps, one after the other.
@@ -315,15 +311,14 @@ fn join_steps<R: Abort + AllocGlobal>(
     joiner: &mut Joiner<1>,
     packets: &[Vec<u8>],
     steps: &[Step],
-) -> Result<(), Fail> {
+) {
     for step in steps {
-        join_step(rt, what, joiner, packets, step)?;
+        join_step(rt, what, joiner, packets, step);
     }
-    Ok(())
 }
 
 #[test]
-fn fragments_are_joined(rt: HostRuntime) -> Result<(), Fail> {
+fn fragments_are_joined(rt: HostRuntime) {
     one_datagram_or_fault();
     written_form_is_read();
     a_packet_does_one_thing();
@@ -333,21 +328,20 @@ fn fragments_are_joined(rt: HostRuntime) -> Result<(), Fail> {
     fragments_make_up_one_whole();
     a_slot_is_whole_where_its_fragments_make_up_data();
     for (what, scope, steps) in JOINS {
-        let packets = written(&rt, scope)?;
-        join_steps(&rt, what, &mut Joiner::new(), packets.as_slice(), steps)?;
+        let packets = written(&rt, scope);
+        join_steps(&rt, what, &mut Joiner::new(), packets.as_slice(), steps);
     }
-    Ok(())
 }
 
 /// The part at an offset: the first one has the names.
-fn part_at(offset: u16) -> Result<Part, Fail> {
+fn part_at(rt: &impl Abort, offset: u16) -> Part {
     if offset > 0 {
-        return Ok(Part::Later(offset));
+        return Part::Later(offset);
     }
-    Ok(Part::First(Names {
-        source: fred(b"")?,
-        destination: team(b"")?,
-    }))
+    Part::First(Names {
+        source: fred(rt, b""),
+        destination: team(rt, b""),
+    })
 }
 
 /// What a datagram means for the node at 127.0.0.3: a word, and for an error its id and code.
@@ -363,22 +357,22 @@ const WAITS: Means = ("waiting", 0, 0);
 
 const NOTHING: Means = ("nothing", 0, 0);
 
-fn meaning_of(accepted: Accept<'_>) -> Result<Means, Fail> {
-    Ok(match accepted {
+fn meaning_of(rt: &impl Abort, accepted: Accept<'_>) -> Means {
+    match accepted {
         Accept::Up(names, payload) => {
             let is_hello = matches!(payload, Payload::Lent(_))
                 && payload.as_slice() == b"hello".as_slice();
-            if !is_hello || names.destination != team(b"")? {
-                return Err("something else is handed up")?;
+            if !is_hello || names.destination != team(rt, b"") {
+                panic!(rt; "something else is handed up");
             }
             UP
         }
         Accept::Reply(to) if to == FIRST_END => REPLY,
-        Accept::Reply(_) => return Err("a reply to somebody else")?,
+        Accept::Reply(_) => panic!(rt; "a reply to somebody else"),
         Accept::Error(id, code) => ("error", id, code),
         Accept::Waiting => WAITS,
         Accept::Nothing => NOTHING,
-    })
+    }
 }
 
 /// The positive response to the registration of the group TEAM by 127.0.0.3, for 60 s.
@@ -386,14 +380,14 @@ const TEAM_GRANTED: &[u8] =
     b"\x00\x01\xAD\x80\x00\x00\x00\x01\x00\x00\x00\x00 FEEFEBENCACACACACACACACACACACACA\x00\x00\x20\x00\x01\x00\x00\x00\x3C\x00\x06\xA0\x00\x7F\x00\x00\x03";
 
 /// The node is granted the group TEAM for 60 s at 60,000.
-fn hold_team(node: &mut Node<1>, out: &mut ArrayVec<u8, 576>) -> Result<(), Fail> {
-    let team = team(b"")?;
-    node.ask(at(60_000)?, &team, Kind::Group, 60, out)?;
-    let heard = node.on_datagram(at(60_000)?, FIRST_END, TEAM_GRANTED, out);
+fn hold_team(rt: &impl Abort, node: &mut Node<1>, out: &mut ArrayVec<u8, 576>) {
+    let team = team(rt, b"");
+    node.ask(at(rt, 60_000), &team, Kind::Group, 60, out)
+        .expect(rt, "ask");
+    let heard = node.on_datagram(at(rt, 60_000), FIRST_END, TEAM_GRANTED, out);
     if !matches!(heard, Ok(Event::Granted(60))) {
-        return Err("TEAM isn't granted")?;
+        panic!(rt; "TEAM isn't granted");
     }
-    Ok(())
 }
 
 /// Whether TEAM was granted, the moment, who sent the datagram, its octets with others at some places, and what it means.
@@ -419,14 +413,15 @@ const ACCEPTS: &[Accepts] = &[
 
 /// What the octets mean for the node.
 fn meaning(
+    rt: &impl Abort,
     node: &Node<1>,
     joiner: &mut Joiner<1>,
     ms: u64,
     from: Addr,
     octets: &[u8],
     out: &mut ArrayVec<u8, 576>,
-) -> Result<Means, Fail> {
-    meaning_of(accept(joiner, at(ms)?, node, from, octets, out))
+) -> Means {
+    meaning_of(rt, accept(joiner, at(rt, ms), node, from, octets, out))
 }
 
 /// The octets mean this for the node, and if it is a reply, the error packet is written.
@@ -436,32 +431,30 @@ fn expect_meaning(
     row: &Accepts,
     octets: &[u8],
     out: &mut ArrayVec<u8, 576>,
-) -> Result<(), Fail> {
-    let means = meaning(node, &mut Joiner::new(), row.1, row.2, octets, out)?;
+) {
+    let means = meaning(rt, node, &mut Joiner::new(), row.1, row.2, octets, out);
     expect_eq_in(rt, &octets, &means, &row.5);
     let is_reply = means.0 == "reply";
     let reply: &[u8] = if is_reply { NOT_PRESENT } else { b"" };
     expect_eq(rt, &out.as_slice(), &reply);
-    Ok(())
 }
 
 /// The datagram of a row comes to the node.
-fn expect_row<R: Abort + AllocGlobal>(rt: &R, node: &Node<1>, row: &Accepts) -> Result<(), Fail> {
-    let octets = patched(rt, row.3, row.4)?;
+fn expect_row<R: Abort + AllocGlobal>(rt: &R, node: &Node<1>, row: &Accepts) {
+    let octets = patched(rt, row.3, row.4);
     expect_meaning(rt, node, row, &octets, &mut ArrayVec::new())
 }
 
 #[test]
-fn datagrams_are_for_names_that_are_held(rt: HostRuntime) -> Result<(), Fail> {
-    let config = Config::new(1000, 60, 4096)?;
-    let nobody: Node<1> = Node::start(SECOND_END, FIRST_END, config, at(0)?);
-    let mut holder: Node<1> = Node::start(SECOND_END, FIRST_END, config, at(0)?);
-    hold_team(&mut holder, &mut ArrayVec::new())?;
+fn datagrams_are_for_names_that_are_held(rt: HostRuntime) {
+    let config = Config::new(1000, 60, 4096).expect(&rt, "limits");
+    let nobody: Node<1> = Node::start(SECOND_END, FIRST_END, config, at(&rt, 0));
+    let mut holder: Node<1> = Node::start(SECOND_END, FIRST_END, config, at(&rt, 0));
+    hold_team(&rt, &mut holder, &mut ArrayVec::new());
     for row in ACCEPTS {
         let node = if row.0 { &holder } else { &nobody };
-        expect_row(&rt, node, row)?;
+        expect_row(&rt, node, row);
     }
-    Ok(())
 }
 
 /// Octets, with others at some places; the first fault, and its place.
@@ -490,9 +483,9 @@ const FAULTS: &[Fails] = &[
 ];
 
 #[test]
-fn faults_have_their_places(rt: HostRuntime) -> Result<(), Fail> {
+fn faults_have_their_places(rt: HostRuntime) {
     for (octets, patches, kind, place) in FAULTS {
-        let octets = patched(&rt, octets, patches)?;
+        let octets = patched(&rt, octets, patches);
         let fault = DgramFault {
             kind: *kind,
             place: *place,
@@ -500,7 +493,6 @@ fn faults_have_their_places(rt: HostRuntime) -> Result<(), Fail> {
         expect_eq_in(&rt, &patches, &decode(&octets).err(), &Some(fault));
     }
     expect_eq(&rt, &DgramFaultKind::BadLength.number(), &8);
-    Ok(())
 }
 
 /// A query of TEAM, of FRED's end.
@@ -551,9 +543,9 @@ fn numbers_and_words_of_faults(rt: HostRuntime) {
 
 /// Each datagram that is cut short has its fault at its end.
 #[test]
-fn datagrams_cut_at_every_length(rt: HostRuntime) -> Result<(), Fail> {
+fn datagrams_cut_at_every_length(rt: HostRuntime) {
     for (octets, patches) in WHOLE {
-        let octets = patched(&rt, octets, patches)?;
+        let octets = patched(&rt, octets, patches);
         for place in 0..octets.len() {
             let short = DgramFault {
                 kind: DgramFaultKind::Short,
@@ -563,7 +555,6 @@ fn datagrams_cut_at_every_length(rt: HostRuntime) -> Result<(), Fail> {
         }
         expect_in(&rt, &octets, decode(&octets).is_ok());
     }
-    Ok(())
 }
 
 /// A fragment of `hello`, the last one or not.
@@ -577,16 +568,15 @@ fn fragment(delivery: Delivery, part: Part, more: bool) -> Body<'static> {
 }
 
 /// Fragments of this delivery, the first and a later one, are read back.
-fn fragments_are_read_back(rt: &impl Abort, delivery: Delivery, more: bool) -> Result<(), Fail> {
+fn fragments_are_read_back(rt: &impl Abort, delivery: Delivery, more: bool) {
     let names = Names {
-        source: fred(b"")?,
-        destination: team(LONG_SCOPE)?,
+        source: fred(rt, b""),
+        destination: team(rt, LONG_SCOPE),
     };
     let first = fragment(delivery, Part::First(names), more);
-    expect(rt, is_read_back(first)?);
+    expect(rt, is_read_back(rt, first));
     let later = fragment(delivery, Part::Later(9), more);
-    expect(rt, is_read_back(later)?);
-    Ok(())
+    expect(rt, is_read_back(rt, later));
 }
 
 /// Every type of a packet with data, and whether more fragments come.
@@ -602,38 +592,37 @@ const DELIVERIES: [(Delivery, bool); 6] = [
 const LOOKUPS: [Lookup; 3] = [Lookup::Request, Lookup::Positive, Lookup::Negative];
 
 #[test]
-fn every_type_is_read_back(rt: HostRuntime) -> Result<(), Fail> {
+fn every_type_is_read_back(rt: HostRuntime) {
     for (delivery, more) in &DELIVERIES {
-        fragments_are_read_back(&rt, *delivery, *more)?;
+        fragments_are_read_back(&rt, *delivery, *more);
     }
     for lookup in &LOOKUPS {
-        let body = Body::Lookup(*lookup, team(b"")?);
-        expect(&rt, is_read_back(body)?);
+        let body = Body::Lookup(*lookup, team(&rt, b""));
+        expect(&rt, is_read_back(&rt, body));
     }
-    expect(&rt, is_read_back(Body::Error(0x84))?);
-    Ok(())
+    expect(&rt, is_read_back(&rt, Body::Error(0x84)));
 }
 
 /// Whether a datagram with this body is read as it was written, also with octets after it.
-fn is_read_back(body: Body<'_>) -> Result<bool, Fail> {
+fn is_read_back(rt: &impl Abort, body: Body<'_>) -> bool {
     let dgram = Dgram {
         id: 0x1234,
         source: SECOND_END,
         body,
     };
     if !dgram.fits() {
-        return Err("a datagram that doesn't fit")?;
+        panic!(rt; "a datagram that doesn't fit");
     }
     let mut out = ArrayVec::new();
-    encode(&dgram, &mut out)?;
+    encode(&dgram, &mut out).expect(rt, "encoded");
     let count = out.len();
-    out.try_push(0xFF)?;
-    let (read, taken) = decode(out.as_slice())?;
-    Ok(taken == count && read == dgram)
+    out.try_push(0xFF).expect(rt, "memory");
+    let (read, taken) = decode(out.as_slice()).expect(rt, "decoded");
+    taken == count && read == dgram
 }
 
 #[test]
-fn a_datagram_of_more_than_576_octets_is_not_written(rt: HostRuntime) -> Result<(), Fail> {
+fn a_datagram_of_more_than_576_octets_is_not_written(rt: HostRuntime) {
     let payload = [7; 563];
     let long = piece(1, Part::Later(0), false, &payload);
     let mut out = ArrayVec::new();
@@ -646,14 +635,16 @@ fn a_datagram_of_more_than_576_octets_is_not_written(rt: HostRuntime) -> Result<
     expect(&rt, just.fits());
     expect_eq(&rt, &encode(&just, &mut out), &Ok(()));
     expect_eq(&rt, &out.len(), &576);
-    Ok(())
 }
 
 #[test]
-fn a_joiner_takes_1584_octets_a_slot(rt: HostRuntime) -> Result<(), Fail> {
+fn a_joiner_takes_1584_octets_a_slot(rt: HostRuntime) {
     expect_eq(&rt, &size_of::<Joiner<4>>(), &(8 + 4 * 1584));
-    expect_eq(&rt, &MsgType::of(0x16).ok_or("no type")?.number(), &0x16);
+    expect_eq(
+        &rt,
+        &MsgType::of(0x16).expect(&rt, "a type").number(),
+        &0x16,
+    );
     expect_eq(&rt, &MsgType::of(0x0F), &None);
     expect_eq(&rt, &Dropped::ClockBack.number(), &4);
-    Ok(())
 }

@@ -1,7 +1,7 @@
 //! Leases over time: the rows of our profile, and memory refused at each growth. A datagram lives 1,000 ms at most, and
 //! the longest lease is 60 s.
 
-ghost use Rattle.std.specs.Prelude.{◌≤◌, IfOk};
+ghost use Rattle.std.specs.Prelude.{◌≤◌};
 
 use super::expect::{expect, expect_eq, expect_eq_in, expect_in};
 use super::{FRED, TEAM, at, name_of};
@@ -9,7 +9,6 @@ use arrayvec::ArrayVec;
 use nbt_lease::{Config, ConfigFault, Grant, GrantFault, Moment, Released, Table, laws};
 use nbt_name::{Kind, Name};
 use std::process::Abort;
-use std::test::Fail;
 
 const FIRST: u32 = 0x7F000002;
 
@@ -48,50 +47,48 @@ enum Step<'a> {
 type Leases = ArrayVec<(u32, u64), 41>;
 
 /// A table of leases, at 0.
-fn table<R: AllocGlobal>(rt: &R, rows: usize) -> Result<Table, Fail> {
-    Ok(Table::new(rt.alloc(), Config::new(1000, 60, rows)?))
+fn table<R: Abort + AllocGlobal>(rt: &R, rows: usize) -> Table {
+    Table::new(rt.alloc(), Config::new(1000, 60, rows).expect(rt, "limits"))
 }
 
 /// The moment, which must not lie before the table's last one.
-fn later(rt: &impl Abort, table: &Table, ms: u64) -> Result<Moment, Fail>
-    ensures { IfOk result (λ now. table.now.last ≤ now) }
+fn later(rt: &impl Abort, table: &Table, ms: u64) -> Moment
+    ensures { table.now.last ≤ result }
 {
-    let now = at(ms)?;
+    let now = at(rt, ms);
     expect_in(rt, &"moments go on", table.last() <= now);
-    Ok(now)
+    now
 }
 
 /// Which step of which case it is, for the failure to print.
 type Place<'a> = (&'a str, usize);
 
 /// A table goes through the steps of a case.
-fn play(rt: &impl Abort, what: &str, table: &mut Table, steps: &[Step<'_>]) -> Result<(), Fail> {
+fn play(rt: &impl Abort, what: &str, table: &mut Table, steps: &[Step<'_>]) {
     for (number, step) in steps.iter().enumerate() {
-        go(rt, &(what, number), table, step)?;
+        go(rt, &(what, number), table, step);
     }
-    Ok(())
 }
 
 /// A step. Here are those that grant.
-fn go(rt: &impl Abort, place: &Place<'_>, table: &mut Table, step: &Step<'_>) -> Result<(), Fail> {
+fn go(rt: &impl Abort, place: &Place<'_>, table: &mut Table, step: &Step<'_>) {
     match *step {
         Step::Grant(ms, octets, addr, kind, ttl, expected) => {
-            let name = name_of(octets)?;
-            let answer = grant(rt, table, ms, &name, addr, kind, ttl)?;
+            let name = name_of(rt, octets);
+            let answer = grant(rt, table, ms, &name, addr, kind, ttl);
             expect_eq_in(rt, place, &answer, &expected);
         }
-        Step::Join(ms, count, expected) => join(rt, table, ms, count, expected)?,
+        Step::Join(ms, count, expected) => join(rt, table, ms, count, expected),
         Step::Grow(ms, octets, addr, kind, ttl, expected) => {
-            let name = name_of(octets)?;
-            let answer = grow(rt, table, ms, &name, addr, kind, ttl)?;
+            let name = name_of(rt, octets);
+            let answer = grow(rt, table, ms, &name, addr, kind, ttl);
             expect_eq_in(rt, place, &answer, &expected);
         }
         Step::JoinGrowing(ms, count, expected) => {
-            join_growing(rt, table, ms, count, expected)?;
+            join_growing(rt, table, ms, count, expected);
         }
-        _ => ask(rt, place, table, step)?,
+        _ => ask(rt, place, table, step),
     }
-    Ok(())
 }
 
 /// The name is released by an address.
@@ -103,36 +100,35 @@ fn release(
     octets: &[u8; 16],
     addr: u32,
     expected: Released,
-) -> Result<(), Fail> {
-    let name = name_of(octets)?;
-    let now = later(rt, table, ms)?;
+) {
+    let name = name_of(rt, octets);
+    let now = later(rt, table, ms);
     let released = table.release(now, &name, addr);
     expect_eq_in(rt, place, &released, &expected);
-    Ok(())
 }
 
 /// The steps that take no memory.
-fn ask(rt: &impl Abort, place: &Place<'_>, table: &mut Table, step: &Step<'_>) -> Result<(), Fail> {
+fn ask(rt: &impl Abort, place: &Place<'_>, table: &mut Table, step: &Step<'_>) {
     match *step {
         Step::Release(ms, addr, expected) => {
-            release(rt, place, table, ms, FRED, addr, expected)?;
+            release(rt, place, table, ms, FRED, addr, expected);
         }
         Step::Leave(ms, addr, expected) => {
-            release(rt, place, table, ms, TEAM, addr, expected)?;
+            release(rt, place, table, ms, TEAM, addr, expected);
         }
         Step::Sweep(ms) => {
-            let now = later(rt, table, ms)?;
+            let now = later(rt, table, ms);
             table.sweep(now);
             expect_in(rt, place, table.last() == now);
         }
         Step::LeastEnd(ms, octets, expected) => {
-            let now = later(rt, table, ms)?;
-            let end = table.least_end(now, &name_of(octets)?);
+            let now = later(rt, table, ms);
+            let end = table.least_end(now, &name_of(rt, octets));
             expect_eq_in(rt, place, &end, &expected);
         }
         Step::LeastEndAfter(ms, count, expected) => {
-            let now = later(rt, table, ms)?;
-            let team = name_of(TEAM)?;
+            let now = later(rt, table, ms);
+            let team = name_of(rt, TEAM);
             let mut members = table.members(now, &team);
             for _ in 0..count {
                 members.next();
@@ -140,20 +136,19 @@ fn ask(rt: &impl Abort, place: &Place<'_>, table: &mut Table, step: &Step<'_>) -
             expect_eq_in(rt, place, &members.least_end(), &expected);
         }
         Step::Members(ms, octets, expected) => {
-            let now = later(rt, table, ms)?;
-            let leases = leases(table, now, &name_of(octets)?)?;
+            let now = later(rt, table, ms);
+            let leases = leases(rt, table, now, &name_of(rt, octets));
             expect_eq_in(rt, place, &leases.as_slice(), &expected);
         }
         Step::HasAtLeast(ms, addr, count, expected) => {
-            let has = table.has_at_least(at(ms)?, addr, count);
+            let has = table.has_at_least(at(rt, ms), addr, count);
             expect_eq_in(rt, place, &has, &expected);
         }
-        _ => return Err("a step that grants")?,
+        _ => panic!(rt; "a step that grants"),
     }
-    Ok(())
 }
 
-fn leases(table: &Table, now: Moment, name: &Name) -> Result<Leases, Fail>
+fn leases(rt: &impl Abort, table: &Table, now: Moment, name: &Name) -> Leases
     requires { table.now.last ≤ now }
 {
     let mut leases = ArrayVec::new();
@@ -161,9 +156,9 @@ fn leases(table: &Table, now: Moment, name: &Name) -> Result<Leases, Fail>
         leases
             .try_push((lease.addr, lease.end))
             .ok()
-            .ok_or("more than 41")?;
+            .expect(rt, "at most 41");
     }
-    Ok(leases)
+    leases
 }
 
 fn grant(
@@ -174,11 +169,11 @@ fn grant(
     addr: u32,
     kind: Kind,
     ttl: u32,
-) -> Result<Result<(u32, u64), GrantFault>, Fail> {
-    let now = later(rt, table, ms)?;
+) -> Result<(u32, u64), GrantFault> {
+    let now = later(rt, table, ms);
     let answer = table.grant(now, name, addr, kind, ttl);
     expect(rt, table.last() == now);
-    Ok(answer.map(|grant| (grant.seconds, grant.end)))
+    answer.map(|grant| (grant.seconds, grant.end))
 }
 
 fn join(
@@ -187,13 +182,12 @@ fn join(
     ms: u64,
     count: u32,
     expected: Result<(u32, u64), GrantFault>,
-) -> Result<(), Fail> {
-    let team = name_of(TEAM)?;
+) {
+    let team = name_of(rt, TEAM);
     for addr in 1..=count {
-        let answer = grant(rt, table, ms, &team, addr, Kind::Group, 60)?;
+        let answer = grant(rt, table, ms, &team, addr, Kind::Group, 60);
         expect_eq_in(rt, &addr, &answer, &expected);
     }
-    Ok(())
 }
 
 /// Grants; where memory was refused, the name's leases are as before, and the same is asked for again.
@@ -205,16 +199,16 @@ fn grow(
     addr: u32,
     kind: Kind,
     ttl: u32,
-) -> Result<Result<(u32, u64), GrantFault>, Fail> {
-    let now = later(rt, table, ms)?;
-    let before = leases(table, now, name)?;
+) -> Result<(u32, u64), GrantFault> {
+    let now = later(rt, table, ms);
+    let before = leases(rt, table, now, name);
     let least = table.least_end(now, name);
-    let answer = grant(rt, table, ms, name, addr, kind, ttl)?;
+    let answer = grant(rt, table, ms, name, addr, kind, ttl);
     if answer != Err(GrantFault::OutOfMemory) {
-        return Ok(answer);
+        return answer;
     }
-    let now = later(rt, table, ms)?;
-    let after = leases(table, now, name)?;
+    let now = later(rt, table, ms);
+    let after = leases(rt, table, now, name);
     expect_eq(rt, &after.as_slice(), &before.as_slice());
     expect_eq(rt, &table.least_end(now, name), &least);
     grant(rt, table, ms, name, addr, kind, ttl)
@@ -226,22 +220,20 @@ fn join_growing(
     ms: u64,
     count: u32,
     expected: Result<(u32, u64), GrantFault>,
-) -> Result<(), Fail> {
-    let team = name_of(TEAM)?;
+) {
+    let team = name_of(rt, TEAM);
     for addr in 1..=count {
-        let answer = grow(rt, table, ms, &team, addr, Kind::Group, 60)?;
+        let answer = grow(rt, table, ms, &team, addr, Kind::Group, 60);
         expect_eq_in(rt, &addr, &answer, &expected);
     }
-    Ok(())
 }
 
 #[test]
-fn moments_up_to_2_to_the_60(rt: HostRuntime) -> Result<(), Fail> {
-    let last = at(1 << 60)?;
+fn moments_up_to_2_to_the_60(rt: HostRuntime) {
+    let last = at(&rt, 1 << 60);
     expect_eq(&rt, &last.get(), &1_152_921_504_606_846_976);
     expect(&rt, Moment::new((1 << 60) + 1).is_none());
     expect(&rt, Moment::zero() < last);
-    Ok(())
 }
 
 /// Limits that are refused: the life, the longest lease, the rows; the fault, and its number.
@@ -265,16 +257,18 @@ fn expect_most(rt: &impl Abort, most: &Config) {
 }
 
 #[test]
-fn limits_of_a_configuration(rt: HostRuntime) -> Result<(), Fail> {
+fn limits_of_a_configuration(rt: HostRuntime) {
     for (life, longest, rows, fault, number) in REFUSED_LIMITS {
         let refused = Config::new(*life, *longest, *rows).err();
         expect_eq(&rt, &refused, &Some(*fault));
         expect_eq(&rt, &fault.number(), &*number);
     }
-    expect_most(&rt, &Config::new(60_000, 1_000_000, 4_096)?);
+    expect_most(
+        &rt,
+        &Config::new(60_000, 1_000_000, 4_096).expect(&rt, "limits"),
+    );
     expect_eq(&rt, &GrantFault::TableFull.number(), &2);
     expect_eq(&rt, &GrantFault::GroupFull.number(), &3);
-    Ok(())
 }
 
 /// Seconds that are granted, and for how many milliseconds a node holds a name by them.
@@ -290,17 +284,20 @@ const RESTS: [(u64, u64); 5] = [
 ];
 
 #[test]
-fn what_a_node_allows_for_clocks_that_drift(rt: HostRuntime) -> Result<(), Fail> {
+fn what_a_node_allows_for_clocks_that_drift(rt: HostRuntime) {
     for (seconds, ms) in &HOLDS {
         expect_eq(&rt, &Config::hold(*seconds), &*ms);
     }
     for (life, ms) in &RESTS {
-        expect_eq(&rt, &Config::new(*life, 60, 4_096)?.quiet(), &*ms);
+        expect_eq(
+            &rt,
+            &Config::new(*life, 60, 4_096).expect(&rt, "limits").quiet(),
+            &*ms,
+        );
     }
     laws::hold_ends_first();
     laws::rest_outlasts_datagrams();
     laws::drift_bound_of_moves();
-    Ok(())
 }
 
 const FRED_BELONGS_TO_ITS_OWNER_UNTIL_120_000: &[Step<'static>] = &[
@@ -542,14 +539,14 @@ fn cases() -> &'static [Case] {
 }
 
 /// A new table goes through the steps of a case.
-fn play_case<R: Abort + AllocGlobal>(rt: &R, case: &Case) -> Result<(), Fail> {
-    let mut table = table(rt, case.1)?;
+fn play_case<R: Abort + AllocGlobal>(rt: &R, case: &Case) {
+    let mut table = table(rt, case.1);
     expect_eq(rt, &table.config().rows(), &case.1);
     play(rt, case.0, &mut table, case.2)
 }
 
 #[test]
-fn names_and_their_leases_step_by_step(rt: HostRuntime) -> Result<(), Fail> {
+fn names_and_their_leases_step_by_step(rt: HostRuntime) {
     laws::same_leases_same_count();
     laws::same_leases_later();
     laws::later_leases_live_now();
@@ -560,26 +557,25 @@ fn names_and_their_leases_step_by_step(rt: HostRuntime) -> Result<(), Fail> {
     laws::leases_of_others_stay();
     laws::granted_lease_stands();
     for case in cases() {
-        play_case(&rt, case)?;
+        play_case(&rt, case);
     }
-    Ok(())
 }
 
 /// One of 65,536 names.
-fn one_of_many(number: u16) -> Result<Name, Fail> {
+fn one_of_many(rt: &impl Abort, number: u16) -> Name {
     let mut octets = *FRED;
     let [high, low] = number.to_be_bytes();
     octets[13] = high;
     octets[14] = low;
-    Ok(Name::new(&octets, b"")?)
+    Name::new(&octets, b"").expect(rt, "a name")
 }
 
 /// Grants 4,096 names: every second one ends at 90,000, and the others at 120,000.
-fn fill(rt: &impl Abort, table: &mut Table) -> Result<(), Fail> {
+fn fill(rt: &impl Abort, table: &mut Table) {
     for number in 0..4096u16 {
-        let name = one_of_many(number)?;
+        let name = one_of_many(rt, number);
         let ttl = if number % 2 == 0 { 30 } else { 60 };
-        let answer = grant(rt, table, 60_000, &name, FIRST, Kind::Unique, ttl)?;
+        let answer = grant(rt, table, 60_000, &name, FIRST, Kind::Unique, ttl);
         expect_eq_in(
             rt,
             &number,
@@ -587,28 +583,26 @@ fn fill(rt: &impl Abort, table: &mut Table) -> Result<(), Fail> {
             &Ok((ttl, 60_000 + 1000 * u64::from(ttl))),
         );
     }
-    Ok(())
 }
 
 /// One name more has no room while all live, and has room then.
-fn see_room(rt: &impl Abort, table: &mut Table) -> Result<(), Fail> {
-    let further = one_of_many(4096)?;
-    let full = grant(rt, table, 89_999, &further, FIRST, Kind::Unique, 60)?;
+fn see_room(rt: &impl Abort, table: &mut Table) {
+    let further = one_of_many(rt, 4096);
+    let full = grant(rt, table, 89_999, &further, FIRST, Kind::Unique, 60);
     expect_eq(rt, &full, &Err(GrantFault::TableFull));
-    let answer = grant(rt, table, 90_000, &further, FIRST, Kind::Unique, 60)?;
+    let answer = grant(rt, table, 90_000, &further, FIRST, Kind::Unique, 60);
     expect_eq(rt, &answer, &Ok((60, 150_000)));
-    Ok(())
 }
 
 /// 4,096 names fill a table, and one more has room once half of them are over.
-fn fill_and_see_room(rt: &impl Abort, table: &mut Table) -> Result<(), Fail> {
-    fill(rt, table)?;
+fn fill_and_see_room(rt: &impl Abort, table: &mut Table) {
+    fill(rt, table);
     see_room(rt, table)
 }
 
 #[test]
-fn a_full_table_has_room_once_half_of_it_is_over(rt: HostRuntime) -> Result<(), Fail> {
-    fill_and_see_room(&rt, &mut table(&rt, 4096)?)
+fn a_full_table_has_room_once_half_of_it_is_over(rt: HostRuntime) {
+    fill_and_see_room(&rt, &mut table(&rt, 4096))
 }
 
 /// A new name, new members, and renewals that move the end may be refused memory. A renewal that moves no end takes none.
@@ -631,6 +625,6 @@ const EACH_GROWTH: &[Step<'static>] = &[
 /// With `rt try --test --fail-alloc N` the Nth allocation is refused. Where it is one of the table's, `grant` says so,
 /// the leases are as before, and the same call with memory gives what the rule says.
 #[test]
-fn refused_memory_leaves_the_leases(rt: HostRuntime) -> Result<(), Fail> {
-    play(&rt, "each growth", &mut table(&rt, 4096)?, EACH_GROWTH)
+fn refused_memory_leaves_the_leases(rt: HostRuntime) {
+    play(&rt, "each growth", &mut table(&rt, 4096), EACH_GROWTH)
 }

@@ -11,7 +11,6 @@ use nbt_name::{
 };
 use std::collections::BTreeSet;
 use std::process::Abort;
-use std::test::Fail;
 
 /// The name `FRED` on the wire, without a scope and in the scope of NETBIOS.COM.
 const FRED_ALONE: &[u8] = b" EGFCEFEECACACACACACACACACACACACA\x00";
@@ -43,10 +42,10 @@ const WIRE_FORMS: &[(&[u8; 16], &[u8], &[u8])] = &[
 ];
 
 #[test]
-fn names_are_their_wire_forms(rt: HostRuntime) -> Result<(), Fail> {
+fn names_are_their_wire_forms(rt: HostRuntime) {
     plain_name_is_its_wire_form();
     for (octets, scope, wire) in WIRE_FORMS {
-        let name = Name::new(octets, scope)?;
+        let name = Name::new(octets, scope).expect(&rt, "a name");
         let mut out = ArrayVec::new();
         name.to_wire(&mut out);
         expect_eq(&rt, &out.as_slice(), &*wire);
@@ -59,14 +58,13 @@ fn names_are_their_wire_forms(rt: HostRuntime) -> Result<(), Fail> {
             packet.as_slice().starts_with(b"\x29\x00") && packet.as_slice().ends_with(wire),
         );
         expect_eq(&rt, &packet.len(), &(2 + wire.len()));
-        let (read, next) = read_plain(wire, 0)?;
+        let (read, next) = read_plain(wire, 0).expect(&rt, "a name");
         expect(&rt, read == name && name.copy() == name);
         expect_eq(&rt, &next, &wire.len());
         expect(&rt, !read.is_star());
         expect_eq(&rt, &read.octets().as_slice(), &octets.as_slice());
         expect_eq(&rt, &read.scope(), &*scope);
     }
-    Ok(())
 }
 
 /// A word, a long word, and the octets of both: flags and an address, a pointer and a TTL of 300,000 s, and the highest
@@ -90,8 +88,8 @@ fn numbers_most_significant_octet_first(rt: HostRuntime) {
 }
 
 #[test]
-fn the_name_that_stands_for_all(rt: HostRuntime) -> Result<(), Fail> {
-    let any = Name::any(b"")?;
+fn the_name_that_stands_for_all(rt: HostRuntime) {
+    let any = Name::any(b"").expect(&rt, "a name");
     let mut wire = ArrayVec::new();
     any.to_wire(&mut wire);
     expect_eq(
@@ -103,7 +101,6 @@ fn the_name_that_stands_for_all(rt: HostRuntime) -> Result<(), Fail> {
     let refused = Name::new(any.octets(), b"").err();
     expect_eq(&rt, &refused, &Some(NameRefusal::Star));
     expect_eq(&rt, &NameRefusal::Star.number(), &1);
-    Ok(())
 }
 
 /// Scopes that are no labels.
@@ -208,7 +205,7 @@ const READINGS: &[(&str, &[u8], usize, By, Read<'static>)] = &[
 ];
 
 #[test]
-fn names_at_a_place_and_their_faults(rt: HostRuntime) -> Result<(), Fail> {
+fn names_at_a_place_and_their_faults(rt: HostRuntime) {
     for (what, octets, place, by, expected) in READINGS {
         expect(&rt, *place <= octets.len());
         let read = match by {
@@ -216,13 +213,12 @@ fn names_at_a_place_and_their_faults(rt: HostRuntime) -> Result<(), Fail> {
             By::ReadPlain => read_plain(octets, *place),
         };
         match *expected {
-            Read::Fred(scope, next) => expect_in(&rt, &what, read == Ok((fred(scope)?, next))),
+            Read::Fred(scope, next) => expect_in(&rt, &what, read == Ok((fred(&rt, scope), next))),
             Read::Fault(kind, place) => {
                 expect_in(&rt, &what, read == Err(NameFault { kind, place }))
             }
         }
     }
-    Ok(())
 }
 
 const WORDS: [(NameFaultKind, u8, &str); 5] = [
@@ -234,9 +230,9 @@ const WORDS: [(NameFaultKind, u8, &str); 5] = [
 ];
 
 #[test]
-fn numbers_and_words_of_a_names_faults(rt: HostRuntime) -> Result<(), Fail> {
+fn numbers_and_words_of_a_names_faults(rt: HostRuntime) {
     for (kind, number, word) in &WORDS {
-        let text = format!(in rt.alloc(); "{kind}")?;
+        let text = format!(in rt.alloc(); "{kind}").expect(&rt, "memory");
         expect_eq(&rt, &text.as_str(), &*word);
         expect_eq(&rt, &kind.number(), &*number);
         expect_eq(&rt, &kind.word(), &*word);
@@ -249,7 +245,6 @@ fn numbers_and_words_of_a_names_faults(rt: HostRuntime) -> Result<(), Fail> {
     for word in &["", "long", "Shor", "TooMany", "BadType"] {
         expect_eq(&rt, &NameFaultKind::from_word(word.as_bytes()), &None);
     }
-    Ok(())
 }
 
 /// Names by what they stand in, where they begin and where they end: spelled out, by a pointer, and by a pointer to a
@@ -283,75 +278,72 @@ fn cut_at_every_length(rt: HostRuntime) {
 }
 
 /// `count` labels of one octet, for a scope of twice as many octets.
-fn short_labels(rt: &HostRuntime, count: usize) -> Result<Vec<u8>, Fail> {
+fn short_labels(rt: &(impl Abort + AllocGlobal), count: usize) -> Vec<u8> {
     let mut scope = Vec::new(rt.alloc());
     for _ in 0..count {
-        scope.extend_from_slice(b"\x01x")?;
+        scope.extend_from_slice(b"\x01x").expect(rt, "memory");
     }
-    Ok(scope)
+    scope
 }
 
 #[test]
-fn a_wire_form_of_255_octets_and_one_of_256(rt: HostRuntime) -> Result<(), Fail> {
-    let mut scope = short_labels(&rt, 109)?;
-    scope.extend_from_slice(b"\x02yz")?;
+fn a_wire_form_of_255_octets_and_one_of_256(rt: HostRuntime) {
+    let mut scope = short_labels(&rt, 109);
+    scope.extend_from_slice(b"\x02yz").expect(&rt, "memory");
     expect_eq(&rt, &scope.len(), &221);
-    let longest = fred(&scope)?;
+    let longest = fred(&rt, &scope);
     let mut wire = ArrayVec::new();
     longest.to_wire(&mut wire);
     expect_eq(&rt, &wire.len(), &255);
     expect(&rt, read_plain(wire.as_slice(), 0) == Ok((longest, 255)));
 
-    let longer = short_labels(&rt, 111)?;
+    let longer = short_labels(&rt, 111);
     expect_eq(
         &rt,
         &Name::new(FRED, &longer).err(),
         &Some(NameRefusal::ScopeLong),
     );
-    let mut octets = Vec::from_slice(rt.alloc(), &FRED_ALONE[..33])?;
-    octets.extend_from_slice(&longer)?;
-    octets.push(0)?;
+    let mut octets = Vec::from_slice(rt.alloc(), &FRED_ALONE[..33]).expect(&rt, "memory");
+    octets.extend_from_slice(&longer).expect(&rt, "memory");
+    octets.push(0).expect(&rt, "memory");
     expect_eq(&rt, &octets.len(), &256);
     let long = NameFault {
         kind: NameFaultKind::Long,
         place: 253,
     };
     expect_eq(&rt, &read_plain(&octets, 0).err(), &Some(long));
-    Ok(())
 }
 
 /// Scopes, one of them twice.
 const SCOPES: &[&[u8]] = &[b"", b"\x01a", b""];
 
 /// FRED is put into both in each scope, with the length of the scope.
-fn insert_each(set: &mut BTreeSet<Name>, map: &mut IndexMap<Name, usize>) -> Result<(), Fail> {
+fn insert_each(rt: &impl Abort, set: &mut BTreeSet<Name>, map: &mut IndexMap<Name, usize>) {
     for scope in SCOPES {
-        set.insert(fred(scope)?)?;
-        map.insert(fred(scope)?, scope.len())?;
+        set.insert(fred(rt, scope)).expect(rt, "memory");
+        map.insert(fred(rt, scope), scope.len())
+            .expect(rt, "memory");
     }
-    Ok(())
 }
 
 #[test]
-fn names_are_keys(rt: HostRuntime) -> Result<(), Fail> {
-    let fred = fred(b"")?;
+fn names_are_keys(rt: HostRuntime) {
+    let fred = fred(&rt, b"");
     let mut set = BTreeSet::new(rt.alloc());
     let mut map = IndexMap::new(rt.alloc());
-    insert_each(&mut set, &mut map)?;
+    insert_each(&rt, &mut set, &mut map);
     expect_eq(&rt, &set.len(), &2);
     expect_eq(&rt, &map.len(), &2);
     expect(&rt, set.contains(&fred));
     expect_eq(&rt, &map.get(&fred).copied(), &Some(0));
-    Ok(())
 }
 
 #[test]
-fn names_are_ordered_by_their_octets_and_then_by_their_scopes(rt: HostRuntime) -> Result<(), Fail> {
-    let bare = fred(b"")?;
-    let scoped = fred(b"\x01z")?;
-    let later = Name::new(b"GINA            ", b"\x01a")?;
+fn names_are_ordered_by_their_octets_and_then_by_their_scopes(rt: HostRuntime) {
+    let bare = fred(&rt, b"");
+    let scoped = fred(&rt, b"\x01z");
+    let later = Name::new(b"GINA            ", b"\x01a").expect(&rt, "a name");
     expect(&rt, bare < scoped);
     expect(&rt, scoped < later);
     expect(&rt, bare < later);
-    Ok(())
 }

@@ -10,7 +10,6 @@ use nbt_name::{Addr, Kind, Name};
 use nbt_node::laws::{each_name, one_move, settling_ends, settling_in_steps};
 use nbt_node::{AskFault, ClockBack, Event, LookupFault, Node, ReleaseFault, Standing};
 use std::process::Abort;
-use std::test::Fail;
 
 const OWN: Addr = Addr {
     ip: 0x7F000002,
@@ -149,12 +148,17 @@ enum Step<'a> {
     Stands(u64, Option<Standing>),
 }
 
-fn start() -> Result<Node<1>, Fail> {
-    Ok(Node::start(OWN, SERVER, Config::new(1000, 60, 4096)?, at(0)?))
+fn start(rt: &impl Abort) -> Node<1> {
+    Node::start(
+        OWN,
+        SERVER,
+        Config::new(1000, 60, 4096).expect(rt, "limits"),
+        at(rt, 0),
+    )
 }
 
 /// The moment of a step.
-fn moment(step: &Step<'_>) -> Result<Moment, Fail> {
+fn moment(rt: &impl Abort, step: &Step<'_>) -> Moment {
     match *step {
         Step::Ask(ms, _, _, _)
         | Step::Release(ms, _)
@@ -171,7 +175,7 @@ fn moment(step: &Step<'_>) -> Result<Moment, Fail> {
         | Step::Holds(ms, _)
         | Step::LookupOpen(ms, _)
         | Step::NextDue(ms, _)
-        | Step::Stands(ms, _) => at(ms),
+        | Step::Stands(ms, _) => at(rt, ms),
     }
 }
 
@@ -179,9 +183,9 @@ fn moment(step: &Step<'_>) -> Result<Moment, Fail> {
 type Place<'a> = (&'a str, usize);
 
 /// A new node goes through the steps of a case, all with one buffer: each call leaves in it what it has to send, and no more.
-fn play(rt: &impl Abort, what: &str, steps: &[Step<'_>]) -> Result<(), Fail> {
-    let fred = fred(b"")?;
-    let mut node = start()?;
+fn play(rt: &impl Abort, what: &str, steps: &[Step<'_>]) {
+    let fred = fred(rt, b"");
+    let mut node = start(rt);
     go_through(rt, what, &mut node, &fred, steps, &mut ArrayVec::new())
 }
 
@@ -193,11 +197,10 @@ fn go_through(
     fred: &Name,
     steps: &[Step<'_>],
     out: &mut ArrayVec<u8, 576>,
-) -> Result<(), Fail> {
+) {
     for (number, step) in steps.iter().enumerate() {
-        go(rt, &(what, number), node, moment(step)?, fred, step, out)?;
+        go(rt, &(what, number), node, moment(rt, step), fred, step, out);
     }
-    Ok(())
 }
 
 /// A step. Here are those of the node's own.
@@ -209,10 +212,10 @@ fn go(
     fred: &Name,
     step: &Step<'_>,
     out: &mut ArrayVec<u8, 576>,
-) -> Result<(), Fail> {
+) {
     match *step {
         Step::Ask(_, name, kind, expected) => {
-            let asked = node.ask(now, &name_of(name)?, kind, 60, out);
+            let asked = node.ask(now, &name_of(rt, name), kind, 60, out);
             expect_eq_in(rt, place, &asked.err(), &expected.err());
             expect_in(rt, place, out.as_slice() == expected.unwrap_or(b""));
         }
@@ -227,12 +230,12 @@ fn go(
             expect_in(rt, place, out.as_slice() == expected.unwrap_or(b""));
         }
         Step::AskNames(_, expected) => {
-            node.name_status(now, OWN, fred, out)?;
+            node.name_status(now, OWN, fred, out)
+                .expect(rt, "name status");
             expect_in(rt, place, out.as_slice() == expected);
         }
         _ => return watch(rt, place, node, now, fred, step, out),
     }
-    Ok(())
 }
 
 /// The steps by which a node is told of time, or asked what it has.
@@ -244,7 +247,7 @@ fn watch(
     fred: &Name,
     step: &Step<'_>,
     out: &mut ArrayVec<u8, 576>,
-) -> Result<(), Fail> {
+) {
     match *step {
         Step::Poll(_, expected) => {
             let to = node.poll(now, out);
@@ -269,7 +272,6 @@ fn watch(
         }
         _ => return hear(rt, place, node, now, step, out),
     }
-    Ok(())
 }
 
 /// The steps by which a node is told of others.
@@ -280,7 +282,7 @@ fn hear(
     now: Moment,
     step: &Step<'_>,
     out: &mut ArrayVec<u8, 576>,
-) -> Result<(), Fail> {
+) {
     match *step {
         Step::Respond(_, from, response, expected) => {
             let octets = response.octets();
@@ -297,7 +299,7 @@ fn hear(
         Step::CutResponse(_, from, response) => {
             hear_cut(rt, place, node, now, from, &response.octets(), out)
         }
-        _ => Err("a step of the node's own")?,
+        _ => panic!(rt; "a step of the node's own"),
     }
 }
 
@@ -310,11 +312,12 @@ fn hear_one(
     came: (Addr, &[u8]),
     expected: (Event<'_>, &[u8]),
     out: &mut ArrayVec<u8, 576>,
-) -> Result<(), Fail> {
-    let event = node.on_datagram(now, came.0, came.1, out)?;
+) {
+    let event = node
+        .on_datagram(now, came.0, came.1, out)
+        .expect(rt, "a reply");
     expect_in(rt, &(place, came.1), event == expected.0);
     expect_in(rt, &(place, came.1), out.as_slice() == expected.1);
-    Ok(())
 }
 
 /// The octets come, cut to each shorter length: nothing is told, and nothing replied.
@@ -326,12 +329,11 @@ fn hear_cut(
     from: Addr,
     octets: &[u8],
     out: &mut ArrayVec<u8, 576>,
-) -> Result<(), Fail> {
+) {
     for length in 0..octets.len() {
         let came = (from, &octets[..length]);
-        hear_one(rt, place, node, now, came, (Event::Nothing, b""), out)?;
+        hear_one(rt, place, node, now, came, (Event::Nothing, b""), out);
     }
-    Ok(())
 }
 
 /// Two lives, and what its clock may be fast by.
@@ -863,22 +865,21 @@ fn cuts() -> &'static [Case] {
     CUTS
 }
 
-fn play_cases(rt: &impl Abort, cases: &[Case]) -> Result<(), Fail> {
+fn play_cases(rt: &impl Abort, cases: &[Case]) {
     for (what, steps) in cases {
-        play(rt, what, steps)?;
+        play(rt, what, steps);
     }
-    Ok(())
 }
 
 #[test]
-fn a_node_step_by_step(rt: HostRuntime) -> Result<(), Fail> {
+fn a_node_step_by_step(rt: HostRuntime) {
     settling_ends();
     settling_in_steps();
     one_move();
     each_name();
-    play_cases(&rt, holds())?;
-    play_cases(&rt, rests())?;
-    play_cases(&rt, lookups())?;
+    play_cases(&rt, holds());
+    play_cases(&rt, rests());
+    play_cases(&rt, lookups());
     play_cases(&rt, cuts())
 }
 
@@ -891,34 +892,29 @@ const FIRST_IDS: &[(u16, &[u8; 2], &[u8; 2])] = &[
 ];
 
 /// The ids of two requests of a node that has rested.
-fn expect_ids(
-    rt: &impl Abort,
-    node: &mut Node<1>,
-    first: &[u8; 2],
-    second: &[u8; 2],
-) -> Result<(), Fail> {
+fn expect_ids(rt: &impl Abort, node: &mut Node<1>, first: &[u8; 2], second: &[u8; 2]) {
     let mut out = ArrayVec::new();
-    let fred = fred(b"")?;
-    node.ask(at(2_005)?, &fred, Kind::Unique, 60, &mut out)?;
+    let fred = fred(rt, b"");
+    node.ask(at(rt, 2_005), &fred, Kind::Unique, 60, &mut out)
+        .expect(rt, "ask");
     expect_in(rt, &first, out.as_slice().starts_with(first));
-    node.resolve(at(2_005)?, &fred, &mut out)?;
+    node.resolve(at(rt, 2_005), &fred, &mut out)
+        .expect(rt, "resolve");
     expect_in(rt, &second, out.as_slice().starts_with(second));
-    Ok(())
 }
 
-fn play_ids(rt: &impl Abort, rows: &[(u16, &[u8; 2], &[u8; 2])]) -> Result<(), Fail> {
-    let config = Config::new(1000, 60, 4096)?;
+fn play_ids(rt: &impl Abort, rows: &[(u16, &[u8; 2], &[u8; 2])]) {
+    let config = Config::new(1000, 60, 4096).expect(rt, "limits");
     for (first_id, first, second) in rows {
-        let mut node = Node::start_from(OWN, SERVER, config, at(0)?, *first_id);
-        expect_ids(rt, &mut node, first, second)?;
+        let mut node = Node::start_from(OWN, SERVER, config, at(rt, 0), *first_id);
+        expect_ids(rt, &mut node, first, second);
     }
-    Ok(())
 }
 
 #[test]
-fn ids_count_from_the_one_that_is_given(rt: HostRuntime) -> Result<(), Fail> {
-    play_ids(&rt, FIRST_IDS)?;
-    expect_ids(&rt, &mut start()?, b"\x00\x01", b"\x00\x02")
+fn ids_count_from_the_one_that_is_given(rt: HostRuntime) {
+    play_ids(&rt, FIRST_IDS);
+    expect_ids(&rt, &mut start(&rt), b"\x00\x01", b"\x00\x02")
 }
 
 const ASK_FAULTS: [(AskFault, u8, &str); 5] = [
@@ -941,7 +937,7 @@ const LOOKUP_FAULTS: [(LookupFault, u8, &str); 3] = [
 ];
 
 #[test]
-fn refusals_have_their_numbers_and_words(rt: HostRuntime) -> Result<(), Fail> {
+fn refusals_have_their_numbers_and_words(rt: HostRuntime) {
     for (fault, number, word) in &ASK_FAULTS {
         expect_eq(&rt, &fault.number(), &*number);
         expect_eq(&rt, &fault.word(), &*word);
@@ -962,6 +958,5 @@ fn refusals_have_their_numbers_and_words(rt: HostRuntime) -> Result<(), Fail> {
     expect_eq(&rt, &ReleaseFault::of(2), &None);
     expect_eq(&rt, &LookupFault::of(3), &None);
     expect_eq(&rt, &ClockBack.number(), &4);
-    expect_eq(&rt, &start()?.addr(), &OWN);
-    Ok(())
+    expect_eq(&rt, &start(&rt).addr(), &OWN);
 }

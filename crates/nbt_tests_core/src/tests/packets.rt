@@ -13,7 +13,6 @@ use nbt_packet::{
     entry_octets, read, status_name_octets,
 };
 use std::process::Abort;
-use std::test::Fail;
 
 /// The registration of FRED with id 1, by 127.0.0.2 for 60 seconds.
 const REGISTRATION: &[u8] =
@@ -200,48 +199,45 @@ const WRITTEN: &[Written] = &[
 ];
 
 /// The message is written as these octets.
-fn written(rt: &impl Abort, message: &Message<'_>, octets: &[u8]) -> Result<(), Fail> {
+fn written(rt: &impl Abort, message: &Message<'_>, octets: &[u8]) {
     let mut out = ArrayVec::new();
     expect(rt, message.fits());
-    encode(message, &mut out)?;
+    encode(message, &mut out).expect(rt, "encoded");
     expect_in(rt, &octets, out.as_slice() == octets);
-    Ok(())
 }
 
 /// The message is written as these octets, and what is read from them is written so again.
-fn written_and_read(rt: &impl Abort, message: &Message<'_>, octets: &[u8]) -> Result<(), Fail> {
-    written(rt, message, octets)?;
-    let (_, length) = decode(octets)?;
+fn written_and_read(rt: &impl Abort, message: &Message<'_>, octets: &[u8]) {
+    written(rt, message, octets);
+    let (_, length) = decode(octets).expect(rt, "decoded");
     expect_eq(rt, &length, &octets.len());
-    let read = read(octets).ok_or("no message")?;
+    let read = read(octets).expect(rt, "a message");
     written(rt, &read, octets)
 }
 
 #[test]
-fn messages_are_written_and_read(rt: HostRuntime) -> Result<(), Fail> {
+fn messages_are_written_and_read(rt: HostRuntime) {
     written_form_is_read();
     for (id, name, says, octets, patches) in WRITTEN {
-        let octets = patched(&rt, octets, patches)?;
-        let message = message(*id, name_of(name)?, *says);
-        written_and_read(&rt, &message, &octets)?;
+        let octets = patched(&rt, octets, patches);
+        let message = message(*id, name_of(&rt, name), *says);
+        written_and_read(&rt, &message, &octets);
     }
-    Ok(())
 }
 
 #[test]
-fn registration_of_fred(rt: HostRuntime) -> Result<(), Fail> {
-    let fred = fred(b"")?;
-    let (packet, length) = decode(REGISTRATION)?;
+fn registration_of_fred(rt: HostRuntime) {
+    let fred = fred(&rt, b"");
+    let (packet, length) = decode(REGISTRATION).expect(&rt, "decoded");
     expect_eq(&rt, &length, &68);
     let Some(Message::Registration(read)) = classify(&packet) else {
-        return Err(Fail::from("no registration"));
+        panic!(&rt; "no registration");
     };
     expect_eq(&rt, &read.id, &1);
     expect(&rt, read.name == fred);
     expect_eq(&rt, &read.kind, &Kind::Unique);
     expect_eq(&rt, &read.addr, &0x7F000002);
     expect_eq(&rt, &read.ttl, &60);
-    Ok(())
 }
 
 /// A query whose name is FRED's first label, and then a pointer to that label again, and so on.
@@ -285,17 +281,16 @@ const FAULTS: &[Fails] = &[
 ];
 
 #[test]
-fn faults_and_their_places(rt: HostRuntime) -> Result<(), Fail> {
+fn faults_and_their_places(rt: HostRuntime) {
     one_packet_or_fault();
     for (octets, patches, kind, place) in FAULTS {
-        let octets = patched(&rt, octets, patches)?;
+        let octets = patched(&rt, octets, patches);
         let fault = Fault {
             kind: *kind,
             place: *place,
         };
         expect_eq_in(&rt, &patches, &decode(&octets).err(), &Some(fault));
     }
-    Ok(())
 }
 
 const WORDS: [(FaultKind, u8, &str); 6] = [
@@ -308,9 +303,9 @@ const WORDS: [(FaultKind, u8, &str); 6] = [
 ];
 
 #[test]
-fn numbers_and_words_of_a_packets_faults(rt: HostRuntime) -> Result<(), Fail> {
+fn numbers_and_words_of_a_packets_faults(rt: HostRuntime) {
     for (kind, number, word) in &WORDS {
-        let text = format!(in rt.alloc(); "{kind}")?;
+        let text = format!(in rt.alloc(); "{kind}").expect(&rt, "memory");
         expect_eq(&rt, &text.as_str(), &*word);
         expect_eq(&rt, &kind.number(), &*number);
         expect_eq(&rt, &kind.word(), &*word);
@@ -319,7 +314,6 @@ fn numbers_and_words_of_a_packets_faults(rt: HostRuntime) -> Result<(), Fail> {
     for word in &["", "TooMan", "toomany", "Full", "BadType"] {
         expect_eq(&rt, &FaultKind::from_word(word.as_bytes()), &None);
     }
-    Ok(())
 }
 
 /// A registration of FRED whose additional record spells its name out, as TEAM.
@@ -375,9 +369,9 @@ const LINES: &[(&[u8], &[(usize, u8)], &str)] = &[
 ];
 
 /// Which line of the table the octets meet.
-fn word_of(octets: &[u8]) -> Result<&'static str, Fail> {
-    let (packet, _) = decode(octets)?;
-    Ok(match classify(&packet) {
+fn word_of(rt: &impl Abort, octets: &[u8]) -> &'static str {
+    let (packet, _) = decode(octets).expect(rt, "decoded");
+    match classify(&packet) {
         None => "none",
         Some(Message::Registration(_)) => "registration",
         Some(Message::Overwrite(_)) => "overwrite",
@@ -392,17 +386,16 @@ fn word_of(octets: &[u8]) -> Result<&'static str, Fail> {
         Some(Message::NotFound { .. }) => "not found",
         Some(Message::Status { .. }) => "status",
         Some(Message::Wait { .. }) => "wait",
-    })
+    }
 }
 
 #[test]
-fn lines_of_the_table(rt: HostRuntime) -> Result<(), Fail> {
+fn lines_of_the_table(rt: HostRuntime) {
     one_message();
     for (octets, patches, word) in LINES {
-        let octets = patched(&rt, octets, patches)?;
-        expect_eq_in(&rt, &patches, &word_of(&octets)?, &*word);
+        let octets = patched(&rt, octets, patches);
+        expect_eq_in(&rt, &patches, &word_of(&rt, &octets), &*word);
     }
-    Ok(())
 }
 
 /// The worked examples of every kind.
@@ -423,7 +416,7 @@ const WHOLE: &[&[u8]] = &[
 
 /// Each packet that is cut short has its fault at its end, and is no message.
 #[test]
-fn packets_cut_at_every_length(rt: HostRuntime) -> Result<(), Fail> {
+fn packets_cut_at_every_length(rt: HostRuntime) {
     one_packet_or_fault();
     for octets in WHOLE {
         for place in 0..octets.len() {
@@ -437,7 +430,6 @@ fn packets_cut_at_every_length(rt: HostRuntime) -> Result<(), Fail> {
         }
         expect_in(&rt, &octets, read(octets).is_some());
     }
-    Ok(())
 }
 
 /// A packet up to its answer's data: the answer is of FRED, and has 2,000 octets of data, from place 56 on.
@@ -448,51 +440,53 @@ const UP_TO_DATA: &[u8] =
 const ADDITIONAL: &[u8] = b"\xC8\x06\x00\x20\x00\x01\x00\x00\x00\x00\x00\x00";
 
 /// That packet with 1,000 pointers as its data, the first one to this place, and each later one to the one before it.
-fn chain_of_1000_pointers(rt: &HostRuntime, first: u8) -> Result<Vec<u8>, Fail> {
-    let mut octets = Vec::from_slice(rt.alloc(), UP_TO_DATA)?;
-    octets.extend_from_slice(&[0xC0, first])?;
+fn chain_of_1000_pointers(rt: &(impl Abort + AllocGlobal), first: u8) -> Vec<u8> {
+    let mut octets = Vec::from_slice(rt.alloc(), UP_TO_DATA).expect(rt, "memory");
+    octets
+        .extend_from_slice(&[0xC0, first])
+        .expect(rt, "memory");
     for k in 0..999u16 {
-        octets.extend_from_slice(&(0xC038 + 2 * k).to_be_bytes())?;
+        octets
+            .extend_from_slice(&(0xC038 + 2 * k).to_be_bytes())
+            .expect(rt, "memory");
     }
-    octets.extend_from_slice(ADDITIONAL)?;
-    Ok(octets)
+    octets.extend_from_slice(ADDITIONAL).expect(rt, "memory");
+    octets
 }
 
-fn expect_a_name_at_the_end(rt: &impl Abort, octets: &[u8]) -> Result<(), Fail> {
-    let (_, length) = decode(octets)?;
+fn expect_a_name_at_the_end(rt: &impl Abort, octets: &[u8]) {
+    let (_, length) = decode(octets).expect(rt, "decoded");
     expect_eq(rt, &length, &2_068);
     expect(rt, octets.len() == 2_068);
-    let fred = fred(b"")?;
+    let fred = fred(rt, b"");
     expect(rt, read_in(octets, 2_056) == Ok((fred, 2_058)));
-    Ok(())
 }
 
 #[test]
-fn a_name_at_the_end_of_1000_pointers(rt: HostRuntime) -> Result<(), Fail> {
-    let octets = chain_of_1000_pointers(&rt, 12)?;
-    expect_a_name_at_the_end(&rt, octets.as_slice())?;
-    let octets = chain_of_1000_pointers(&rt, 56)?;
+fn a_name_at_the_end_of_1000_pointers(rt: HostRuntime) {
+    let octets = chain_of_1000_pointers(&rt, 12);
+    expect_a_name_at_the_end(&rt, octets.as_slice());
+    let octets = chain_of_1000_pointers(&rt, 56);
     let to_itself = Fault {
         kind: FaultKind::Name(NameFaultKind::BadPointer),
         place: 56,
     };
     expect_eq(&rt, &decode(&octets).err(), &Some(to_itself));
-    Ok(())
 }
 
 #[test]
-fn octets_after_the_packet_are_not_looked_at(rt: HostRuntime) -> Result<(), Fail> {
+fn octets_after_the_packet_are_not_looked_at(rt: HostRuntime) {
     one_message_spelled();
-    let mut more = Vec::from_slice(rt.alloc(), REGISTRATION)?;
-    more.extend_from_slice(b"\xFF\xFF\xFF")?;
-    let (_, length) = decode(&more)?;
+    let mut more = Vec::from_slice(rt.alloc(), REGISTRATION).expect(&rt, "memory");
+    more.extend_from_slice(b"\xFF\xFF\xFF")
+        .expect(&rt, "memory");
+    let (_, length) = decode(&more).expect(&rt, "decoded");
     expect_eq(&rt, &length, &68);
     expect(&rt, matches!(read(&more), Some(Message::Registration(_))));
-    Ok(())
 }
 
 #[test]
-fn entries_and_status_names(rt: HostRuntime) -> Result<(), Fail> {
+fn entries_and_status_names(rt: HostRuntime) {
     spelled_message_fits();
     expect(
         &rt,
@@ -506,11 +500,10 @@ fn entries_and_status_names(rt: HostRuntime) -> Result<(), Fail> {
     expect(&rt, unique == *b"FRED            \x24\x00");
     let group = status_name_octets(TEAM, Kind::Group);
     expect(&rt, group == *b"TEAM            \xA4\x00");
-    Ok(())
 }
 
 #[test]
-fn a_written_form_of_576_octets_and_one_longer(rt: HostRuntime) -> Result<(), Fail> {
+fn a_written_form_of_576_octets_and_one_longer(rt: HostRuntime) {
     written_length();
     few_rows_are_written();
     let entries = [0x20; 522];
@@ -519,7 +512,7 @@ fn a_written_form_of_576_octets_and_one_longer(rt: HostRuntime) -> Result<(), Fa
         expect(&rt, end <= entries.len());
         let found = Message::Found {
             id: 1,
-            name: fred(b"\x03abc")?,
+            name: fred(&rt, b"\x03abc"),
             ttl: 60,
             entries: &entries[..end],
             cut: false,
@@ -531,7 +524,6 @@ fn a_written_form_of_576_octets_and_one_longer(rt: HostRuntime) -> Result<(), Fa
         expect_eq(&rt, &out.len(), &*length);
     }
     expect_eq(&rt, &Full.number(), &7);
-    Ok(())
 }
 
 /// The scope of the longest name: three labels of 63 octets and one of 28.
@@ -548,10 +540,9 @@ const ENTRIES: &[(&[u8], usize)] = &[
 
 /// Beside a wire form of w octets there is room for (576 - 22 - w) / 6 entries, rounded down.
 #[test]
-fn as_many_entries_as_have_room_beside_a_name(rt: HostRuntime) -> Result<(), Fail> {
+fn as_many_entries_as_have_room_beside_a_name(rt: HostRuntime) {
     for (scope, most) in ENTRIES {
-        let name = fred(scope)?;
+        let name = fred(&rt, scope);
         expect_eq_in(&rt, &scope, &entries_most(&name), &*most);
     }
-    Ok(())
 }

@@ -2,14 +2,14 @@
 
 use super::expect::{expect_eq, expect_eq_in, expect_in};
 use arrayvec::ArrayVec;
+use nbt_lease::Moment;
 use nbt_name::Addr;
 use nbt_server::{Server, ServerFault};
 use nbt_testing::{
     EVERY_KIND, FIRST, FOUND, GRANTED, NOT_FOUND, QUERY, REFRESH, REFUSED, REGISTRATION, RELEASE,
-    RIVAL, SECOND, moment, octets, one_of_many, registration_of_many, started,
+    RIVAL, SECOND, octets, one_of_many, registration_of_many, started,
 };
 use std::process::Abort;
-use std::test::Fail;
 
 /// When a datagram comes, from which address, its octets, and those of the reply; `-` where there is none.
 type Row = (u64, u32, &'static str, &'static str);
@@ -18,38 +18,28 @@ type Row = (u64, u32, &'static str, &'static str);
 type Came<'a> = (&'a str, u64, u32, &'a [u8]);
 
 /// The reply to these octets.
-fn expect_reply(
-    rt: &impl Abort,
-    server: &mut Server,
-    came: Came<'_>,
-    gives: &[u8],
-) -> Result<(), Fail> {
-    let now = moment(came.1)?;
+fn expect_reply(rt: &impl Abort, server: &mut Server, came: Came<'_>, gives: &[u8]) {
+    let now = Moment::new(came.1).expect(rt, "a moment");
     let from = Addr {
         ip: came.2,
         port: 137,
     };
     let mut out = ArrayVec::new();
-    let is_reply = server.on_datagram(now, from, came.3, &mut out)?;
+    let is_reply = server
+        .on_datagram(now, from, came.3, &mut out)
+        .expect(rt, "a reply");
     expect_eq_in(rt, &came, &out.as_slice(), &gives);
     expect_eq_in(rt, &came, &is_reply, &!gives.is_empty());
-    Ok(())
 }
 
 /// The server takes the datagrams, and each reply is that of its row.
-fn play<R: Abort + AllocGlobal>(
-    rt: &R,
-    what: &str,
-    server: &mut Server,
-    rows: &[Row],
-) -> Result<(), Fail> {
+fn play<R: Abort + AllocGlobal>(rt: &R, what: &str, server: &mut Server, rows: &[Row]) {
     for (at, ip, asks, gives) in rows {
-        let asks = octets(rt, asks)?;
-        let gives = octets(rt, gives)?;
+        let asks = octets(rt, asks).expect(rt, "octets");
+        let gives = octets(rt, gives).expect(rt, "octets");
         let came = (what, *at, *ip, asks.as_slice());
-        expect_reply(rt, server, came, gives.as_slice())?;
+        expect_reply(rt, server, came, gives.as_slice());
     }
-    Ok(())
 }
 
 const AFTER_THE_SILENCE: [Row; 2] = [
@@ -119,10 +109,12 @@ enum Step {
 }
 
 /// Words, and then an address.
-fn ended<R: AllocGlobal>(rt: &R, words: &str, addr: u32) -> Result<Vec<u8>, Fail> {
-    let mut octets = octets(rt, words)?;
-    octets.extend_from_slice(&addr.to_be_bytes())?;
-    Ok(octets)
+fn ended<R: Abort + AllocGlobal>(rt: &R, words: &str, addr: u32) -> Vec<u8> {
+    let mut octets = octets(rt, words).expect(rt, "octets");
+    octets
+        .extend_from_slice(&addr.to_be_bytes())
+        .expect(rt, "memory");
+    octets
 }
 
 /// Each of these addresses registers, and gets its reply.
@@ -133,30 +125,30 @@ fn join<R: Abort + AllocGlobal>(
     addresses: (u32, u32),
     asks: &str,
     gives: &str,
-) -> Result<(), Fail> {
+) {
     for addr in addresses.0..=addresses.1 {
-        let asks = ended(rt, asks, addr)?;
-        let gives = ended(rt, gives, addr)?;
+        let asks = ended(rt, asks, addr);
+        let gives = ended(rt, gives, addr);
         let came = (what, 60_500, addr, asks.as_slice());
-        expect_reply(rt, server, came, gives.as_slice())?;
+        expect_reply(rt, server, came, gives.as_slice());
     }
-    Ok(())
 }
 
 /// The entries of a group's members at the addresses from 1 to this one.
-fn push_entries(octets: &mut Vec<u8>, last: u32) -> Result<(), Fail> {
+fn push_entries(rt: &impl Abort, octets: &mut Vec<u8>, last: u32) {
     for addr in 1..=last {
-        octets.extend_from_slice(b"\xA0\x00")?;
-        octets.extend_from_slice(&addr.to_be_bytes())?;
+        octets.extend_from_slice(b"\xA0\x00").expect(rt, "memory");
+        octets
+            .extend_from_slice(&addr.to_be_bytes())
+            .expect(rt, "memory");
     }
-    Ok(())
 }
 
 /// Words, and then these entries.
-fn listed<R: AllocGlobal>(rt: &R, words: &str, last: u32) -> Result<Vec<u8>, Fail> {
-    let mut octets = octets(rt, words)?;
-    push_entries(&mut octets, last)?;
-    Ok(octets)
+fn listed<R: Abort + AllocGlobal>(rt: &R, words: &str, last: u32) -> Vec<u8> {
+    let mut octets = octets(rt, words).expect(rt, "octets");
+    push_entries(rt, &mut octets, last);
+    octets
 }
 
 /// The group is queried, and these entries are listed.
@@ -165,32 +157,26 @@ fn query<R: Abort + AllocGlobal>(
     server: &mut Server,
     came: (&str, u64, &str),
     gives: (&str, u32, usize),
-) -> Result<(), Fail> {
-    let asks = octets(rt, came.2)?;
-    let listed = listed(rt, gives.0, gives.1)?;
+) {
+    let asks = octets(rt, came.2).expect(rt, "octets");
+    let listed = listed(rt, gives.0, gives.1);
     let came = (came.0, came.1, FIRST, asks.as_slice());
     expect_eq_in(rt, &came, &listed.len(), &gives.2);
     expect_reply(rt, server, came, listed.as_slice())
 }
 
 /// So goes a group at a server.
-fn play_group<R: Abort + AllocGlobal>(
-    rt: &R,
-    what: &str,
-    server: &mut Server,
-    steps: &[Step],
-) -> Result<(), Fail> {
+fn play_group<R: Abort + AllocGlobal>(rt: &R, what: &str, server: &mut Server, steps: &[Step]) {
     for step in steps {
         match *step {
             Step::Join(first, last, asks, gives) => {
-                join(rt, what, server, (first, last), asks, gives)?;
+                join(rt, what, server, (first, last), asks, gives);
             }
             Step::Query(at, asks, gives, last, length) => {
-                query(rt, server, (what, at, asks), (gives, last, length))?;
+                query(rt, server, (what, at, asks), (gives, last, length));
             }
         }
     }
-    Ok(())
 }
 
 /// The registration of the group TEAM and its positive reply, but for the address.
@@ -746,31 +732,18 @@ const NOT_FOR_A_SERVER: [Row; 7] = [
 ];
 
 /// The octets come from 127.0.0.2 at this moment, cut to each shorter length, and have no reply.
-fn cut_one(
-    rt: &impl Abort,
-    what: &str,
-    server: &mut Server,
-    at: u64,
-    whole: &[u8],
-) -> Result<(), Fail> {
+fn cut_one(rt: &impl Abort, what: &str, server: &mut Server, at: u64, whole: &[u8]) {
     for length in 0..whole.len() {
-        expect_reply(rt, server, (what, at, FIRST, &whole[..length]), b"")?;
+        expect_reply(rt, server, (what, at, FIRST, &whole[..length]), b"");
     }
-    Ok(())
 }
 
 /// So do the packets of every kind.
-fn cut<R: Abort + AllocGlobal>(
-    rt: &R,
-    what: &str,
-    server: &mut Server,
-    at: u64,
-) -> Result<(), Fail> {
+fn cut<R: Abort + AllocGlobal>(rt: &R, what: &str, server: &mut Server, at: u64) {
     for words in &EVERY_KIND {
-        let whole = octets(rt, words)?;
-        cut_one(rt, what, server, at, whole.as_slice())?;
+        let whole = octets(rt, words).expect(rt, "octets");
+        cut_one(rt, what, server, at, whole.as_slice());
     }
-    Ok(())
 }
 
 const FREE: [Row; 2] = [
@@ -788,15 +761,9 @@ const LEASED: [Row; 2] = [
 const SILENT: [Row; 1] = [(10_000, FIRST, REGISTRATION, "-")];
 
 /// A datagram at a moment before the last one, which is said, is refused, and has no reply.
-fn expect_back(
-    rt: &impl Abort,
-    what: &str,
-    server: &mut Server,
-    at: u64,
-    last: u64,
-) -> Result<(), Fail> {
-    let now = moment(at)?;
-    let last = moment(last)?;
+fn expect_back(rt: &impl Abort, what: &str, server: &mut Server, at: u64, last: u64) {
+    let now = Moment::new(at).expect(rt, "a moment");
+    let last = Moment::new(last).expect(rt, "a moment");
     let from = Addr {
         ip: FIRST,
         port: 137,
@@ -806,7 +773,6 @@ fn expect_back(
     expect_eq_in(rt, &(what, at), &got.err(), &Some(ServerFault::ClockBack));
     expect_in(rt, &(what, at), out.is_empty());
     expect_in(rt, &(what, at), server.last() == last);
-    Ok(())
 }
 
 /// Of the names of many those from one number to another register, and each gets its reply: the flags and counts of the reply, and
@@ -818,14 +784,13 @@ fn play_many<R: Abort + AllocGlobal>(
     numbers: (u16, u16),
     head: &str,
     tail: &str,
-) -> Result<(), Fail> {
+) {
     for number in numbers.0..=numbers.1 {
-        let asks = registration_of_many(rt, number)?;
-        let gives = one_of_many(rt, number, head, tail)?;
+        let asks = registration_of_many(rt, number).expect(rt, "a registration");
+        let gives = one_of_many(rt, number, head, tail).expect(rt, "a packet");
         let came = (what, 60_000, FIRST, asks.as_slice());
-        expect_reply(rt, server, came, gives.as_slice())?;
+        expect_reply(rt, server, came, gives.as_slice());
     }
-    Ok(())
 }
 
 /// What comes to a server.
@@ -845,12 +810,7 @@ enum Part {
     Limit(u32),
 }
 
-fn play_part<R: Abort + AllocGlobal>(
-    rt: &R,
-    what: &str,
-    server: &mut Server,
-    part: &Part,
-) -> Result<(), Fail> {
+fn play_part<R: Abort + AllocGlobal>(rt: &R, what: &str, server: &mut Server, part: &Part) {
     match *part {
         Part::Rows(rows) => play(rt, what, server, rows),
         Part::Group(steps) => play_group(rt, what, server, steps),
@@ -861,21 +821,14 @@ fn play_part<R: Abort + AllocGlobal>(
         }
         Part::Limit(rows) => {
             server.limit_clients(rows);
-            Ok(())
         }
     }
 }
 
-fn play_parts<R: Abort + AllocGlobal>(
-    rt: &R,
-    what: &str,
-    server: &mut Server,
-    parts: &[Part],
-) -> Result<(), Fail> {
+fn play_parts<R: Abort + AllocGlobal>(rt: &R, what: &str, server: &mut Server, parts: &[Part]) {
     for part in parts {
-        play_part(rt, what, server, part)?;
+        play_part(rt, what, server, part);
     }
-    Ok(())
 }
 
 /// What the case shows; a server's rows, when it starts, and what comes to it. A function returns each table, since the prover writes
@@ -1145,25 +1098,24 @@ fn clients() -> &'static [Case] {
 }
 
 /// A new server plays its part in a case.
-fn play_case<R: Abort + AllocGlobal>(rt: &R, case: &Case) -> Result<(), Fail> {
-    let mut server = started(rt, case.1, case.2)?;
+fn play_case<R: Abort + AllocGlobal>(rt: &R, case: &Case) {
+    let mut server = started(rt, case.1, case.2).expect(rt, "a server");
     play_parts(rt, case.0, &mut server, case.3)
 }
 
-fn play_cases<R: Abort + AllocGlobal>(rt: &R, cases: &[Case]) -> Result<(), Fail> {
+fn play_cases<R: Abort + AllocGlobal>(rt: &R, cases: &[Case]) {
     for case in cases {
-        play_case(rt, case)?;
+        play_case(rt, case);
     }
-    Ok(())
 }
 
 #[test]
-fn datagrams_and_their_replies(rt: HostRuntime) -> Result<(), Fail> {
+fn datagrams_and_their_replies(rt: HostRuntime) {
     expect_eq(&rt, &ServerFault::ClockBack.number(), &1);
-    play_cases(&rt, names())?;
-    play_cases(&rt, groups())?;
-    play_cases(&rt, leases())?;
-    play_cases(&rt, clients())?;
+    play_cases(&rt, names());
+    play_cases(&rt, groups());
+    play_cases(&rt, leases());
+    play_cases(&rt, clients());
     play_cases(&rt, packets())
 }
 
@@ -1181,23 +1133,20 @@ const NOT_FOUND_OCTETS: &[u8] =
     b"\x00\x08\x85\x83\x00\x00\x00\x01\x00\x00\x00\x00 EGFCEFEECACACACACACACACACACACACA\x00\x00\x0A\x00\x01\x00\x00\x00\x00\x00\x00";
 
 /// FRED is granted, or memory was refused: then the server says so, has no lease, and grants the same request when it comes again.
-fn expect_granted_at_last(rt: &impl Abort, server: &mut Server) -> Result<(), Fail> {
+fn expect_granted_at_last(rt: &impl Abort, server: &mut Server) {
     let asks = ("at last", 60_000, FIRST, REGISTRATION_OCTETS);
-    if is_refused_memory(rt, server, asks, GRANTED_OCTETS)? {
+    if is_refused_memory(rt, server, asks, GRANTED_OCTETS) {
         let query = ("no lease", 60_000, SECOND, QUERY_OCTETS);
-        expect_reply(rt, server, query, NOT_FOUND_OCTETS)?;
-        expect_reply(rt, server, asks, GRANTED_OCTETS)?;
+        expect_reply(rt, server, query, NOT_FOUND_OCTETS);
+        expect_reply(rt, server, asks, GRANTED_OCTETS);
     }
-    Ok(())
 }
 
 /// With memory it is granted. `rt try --test --fail-alloc N` refuses the Nth allocation: where it is the server's, it says so,
 /// has no lease, and grants the same request when it comes again.
 #[test]
-fn refused_memory_is_told_and_the_same_request_is_granted_later(
-    rt: HostRuntime,
-) -> Result<(), Fail> {
-    expect_granted_at_last(&rt, &mut started(&rt, 4096, 0)?)
+fn refused_memory_is_told_and_the_same_request_is_granted_later(rt: HostRuntime) {
+    expect_granted_at_last(&rt, &mut started(&rt, 4096, 0).expect(&rt, "a server"))
 }
 
 /// Each growth of a server: a new name, a group's members, and renewals that move an end. FRED's lease lasts until 121,000.
@@ -1227,13 +1176,8 @@ const EACH_GROWTH: [Row; 7] = [
 ];
 
 /// Whether memory was refused for the reply to these octets: then the buffer is empty, and otherwise it has the reply.
-fn is_refused_memory(
-    rt: &impl Abort,
-    server: &mut Server,
-    came: Came<'_>,
-    gives: &[u8],
-) -> Result<bool, Fail> {
-    let now = moment(came.1)?;
+fn is_refused_memory(rt: &impl Abort, server: &mut Server, came: Came<'_>, gives: &[u8]) -> bool {
+    let now = Moment::new(came.1).expect(rt, "a moment");
     let from = Addr {
         ip: came.2,
         port: 137,
@@ -1242,39 +1186,32 @@ fn is_refused_memory(
     if let Err(fault) = server.on_datagram(now, from, came.3, &mut out) {
         expect_eq_in(rt, &came, &fault, &ServerFault::OutOfMemory);
         expect_in(rt, &came, out.is_empty());
-        return Ok(true);
+        return true;
     }
     expect_eq_in(rt, &came, &out.as_slice(), &gives);
-    Ok(false)
+    false
 }
 
 /// The reply to these octets, which are given once more where memory was refused.
-fn expect_at_last(
-    rt: &impl Abort,
-    server: &mut Server,
-    came: Came<'_>,
-    gives: &[u8],
-) -> Result<(), Fail> {
-    if is_refused_memory(rt, server, came, gives)? {
-        return expect_reply(rt, server, came, gives);
+fn expect_at_last(rt: &impl Abort, server: &mut Server, came: Came<'_>, gives: &[u8]) {
+    if is_refused_memory(rt, server, came, gives) {
+        expect_reply(rt, server, came, gives);
     }
-    Ok(())
 }
 
 /// The server takes the datagrams, some of them twice, and each reply is that of its row.
-fn play_growing<R: Abort + AllocGlobal>(rt: &R, server: &mut Server) -> Result<(), Fail> {
+fn play_growing<R: Abort + AllocGlobal>(rt: &R, server: &mut Server) {
     for (at, ip, asks, gives) in &EACH_GROWTH {
-        let asks = octets(rt, asks)?;
-        let gives = octets(rt, gives)?;
+        let asks = octets(rt, asks).expect(rt, "octets");
+        let gives = octets(rt, gives).expect(rt, "octets");
         let came = ("each growth", *at, *ip, asks.as_slice());
-        expect_at_last(rt, server, came, gives.as_slice())?;
+        expect_at_last(rt, server, came, gives.as_slice());
     }
-    Ok(())
 }
 
 /// With `rt try --test --fail-alloc N` the Nth allocation is refused: where it is one of the server's, the same datagram
 /// has its reply when it comes again.
 #[test]
-fn refused_memory_at_each_growth_of_a_server(rt: HostRuntime) -> Result<(), Fail> {
-    play_growing(&rt, &mut started(&rt, 4096, 0)?)
+fn refused_memory_at_each_growth_of_a_server(rt: HostRuntime) {
+    play_growing(&rt, &mut started(&rt, 4096, 0).expect(&rt, "a server"))
 }

@@ -9,7 +9,6 @@ use nbt_session::{
     EncodeFault, Fault, FaultKind, Packet, Part, Pieces, Stream, StreamFault, encode, laws,
 };
 use std::process::Abort;
-use std::test::Fail;
 
 pub(super) const SECOND: Addr = Addr {
     ip: 0x7F00_0003,
@@ -38,18 +37,20 @@ pub(super) enum Said<'a> {
 }
 
 /// The packet that is said.
-pub(super) fn packet<A: AllocGlobal>(rt: &A, said: Said<'_>) -> Result<Packet, Fail> {
-    Ok(match said {
-        Said::Message(octets) => Packet::Message(Vec::from_slice(rt.alloc(), octets)?),
+pub(super) fn packet<A: Abort + AllocGlobal>(rt: &A, said: Said<'_>) -> Packet {
+    match said {
+        Said::Message(octets) => Packet::Message(Vec::from_slice(rt.alloc(), octets).expect(
+            rt, "memory",
+        )),
         Said::Request(called, calling) => Packet::Request {
-            called: name_of(called)?,
-            calling: name_of(calling)?,
+            called: name_of(rt, called),
+            calling: name_of(rt, calling),
         },
         Said::Positive => Packet::Positive,
         Said::Negative(code) => Packet::Negative(code),
         Said::Retarget(to) => Packet::Retarget(to),
         Said::KeepAlive => Packet::KeepAlive,
-    })
+    }
 }
 
 /// Packets and their texts.
@@ -74,26 +75,24 @@ fn written_and_read<R: Abort + AllocGlobal>(
     text: &[u8],
     octets: &mut Vec<u8>,
     stream: &mut Stream,
-) -> Result<(), Fail> {
-    octets.push(0xFF)?;
-    encode(&packet, octets)?;
+) {
+    octets.push(0xFF).expect(rt, "memory");
+    encode(&packet, octets).expect(rt, "encoded");
     expect_eq_in(rt, &text, &octets[0], &0xFF);
     expect_eq_in(rt, &text, &&octets[1..], &text);
     let taken = stream.take(&octets[1..]);
     expect_in(rt, &text, taken == Ok((text.len(), Some(packet))));
-    Ok(())
 }
 
 #[test]
-fn packets_are_their_texts(rt: HostRuntime) -> Result<(), Fail> {
+fn packets_are_their_texts(rt: HostRuntime) {
     laws::text_is_read();
     for (said, text) in &TEXTS {
-        let packet = packet(&rt, *said)?;
+        let packet = packet(&rt, *said);
         let mut octets = Vec::new(rt.alloc());
         let mut stream = Stream::new(rt.alloc());
-        written_and_read(&rt, packet, *text, &mut octets, &mut stream)?;
+        written_and_read(&rt, packet, *text, &mut octets, &mut stream);
     }
-    Ok(())
 }
 
 /// Gives a new stream the octets in pieces of a size: the packets of the table come in order, and then as many octets as are said.
@@ -103,41 +102,41 @@ fn play_cut<R: Abort + AllocGlobal>(
     octets: &[u8],
     size: usize,
     more: usize,
-) -> Result<(), Fail> {
+) {
     let mut came = 0usize;
     let mut held = 0usize;
     for piece in octets.chunks(size.max(1)) {
         let mut rest = piece;
         for _ in 0..16 {
-            let (taken, answer) = stream.take(rest)?;
+            let (taken, answer) = stream.take(rest).expect(rt, "take");
             rest = &rest[taken..];
             held = held.saturating_add(taken);
             let Some(answer) = answer else { break };
-            let (said, text) = TEXTS.get(came).ok_or("a packet more")?;
-            expect_in(rt, &(*text, size), answer == packet(rt, *said)?);
+            let (said, text) = TEXTS.get(came).expect(rt, "a packet more");
+            expect_in(rt, &(*text, size), answer == packet(rt, *said));
             came = came.saturating_add(1);
             held = 0;
         }
     }
     expect_eq_in(rt, &size, &came, &TEXTS.len());
     expect_eq_in(rt, &size, &held, &more);
-    Ok(())
 }
 
 #[test]
-fn a_stream_cut_anywhere(rt: HostRuntime) -> Result<(), Fail> {
+fn a_stream_cut_anywhere(rt: HostRuntime) {
     laws::one_stream();
     laws::cutting_changes_nothing();
     let mut octets = Vec::new(rt.alloc());
     for (_, text) in &TEXTS {
-        octets.extend_from_slice(*text)?;
+        octets.extend_from_slice(*text).expect(&rt, "memory");
     }
-    octets.extend_from_slice(b"\x00\x01\x00\x00rest")?;
+    octets
+        .extend_from_slice(b"\x00\x01\x00\x00rest")
+        .expect(&rt, "memory");
     for size in &[1, 2, 3, 5, 7, 64, 200] {
         let mut stream = Stream::new(rt.alloc());
-        play_cut(&rt, &mut stream, &octets, *size, 8)?;
+        play_cut(&rt, &mut stream, &octets, *size, 8);
     }
-    Ok(())
 }
 
 /// The packet's text comes in two parts.
@@ -147,24 +146,22 @@ fn cut_at<R: Abort + AllocGlobal>(
     said: Said<'_>,
     cut: &[u8],
     rest: &[u8],
-) -> Result<(), Fail> {
-    let wanted = Ok((rest.len(), Some(packet(rt, said)?)));
+) {
+    let wanted = Ok((rest.len(), Some(packet(rt, said))));
     expect_in(rt, &(cut, rest), stream.take(cut) == Ok((cut.len(), None)));
     expect_in(rt, &(cut, rest), stream.take(rest) == wanted);
-    Ok(())
 }
 
 /// A packet of each kind that is cut short is no packet yet, and all that came of it is held: with the rest it is the packet.
 #[test]
-fn session_packets_cut_at_every_length(rt: HostRuntime) -> Result<(), Fail> {
+fn session_packets_cut_at_every_length(rt: HostRuntime) {
     for (said, text) in &TEXTS {
         for place in 0..text.len() {
             let (cut, rest) = text.split_at(place);
             let mut stream = Stream::new(rt.alloc());
-            cut_at(&rt, &mut stream, *said, cut, rest)?;
+            cut_at(&rt, &mut stream, *said, cut, rest);
         }
     }
-    Ok(())
 }
 
 /// Octets, what stands at some of their places instead, and the fault that their last octet shows.
@@ -231,10 +228,10 @@ fn see_fault_in_parts(rt: &impl Abort, octets: &[u8], fault: StreamFault) {
 }
 
 #[test]
-fn faults_where_they_are_seen(rt: HostRuntime) -> Result<(), Fail> {
+fn faults_where_they_are_seen(rt: HostRuntime) {
     laws::one_fault();
     for (octets, patches, kind, place) in &FAULTS {
-        let octets = patched(&rt, *octets, *patches)?;
+        let octets = patched(&rt, *octets, *patches);
         let fault = StreamFault::Malformed(Fault {
             kind: *kind,
             place: *place,
@@ -242,7 +239,6 @@ fn faults_where_they_are_seen(rt: HostRuntime) -> Result<(), Fail> {
         see_fault(&rt, &octets, fault);
         see_fault_in_parts(&rt, &octets, fault);
     }
-    Ok(())
 }
 
 const NUMBERS: [(FaultKind, u8, &str); 4] = [
@@ -311,14 +307,14 @@ const PARTS: [Parts; 3] = [
     ),
 ];
 
-fn part<'a, A: AllocGlobal>(rt: &A, comes: Comes<'a>) -> Result<Option<Part<'a>>, Fail> {
-    Ok(match comes {
+fn part<'a, A: Abort + AllocGlobal>(rt: &A, comes: Comes<'a>) -> Option<Part<'a>> {
+    match comes {
         Comes::Start(size) => Some(Part::MessageStart(size)),
         Comes::Data(octets) => Some(Part::MessageData(octets)),
         Comes::End => Some(Part::MessageEnd),
-        Comes::Other(said) => Some(Part::Other(packet(rt, said)?)),
+        Comes::Other(said) => Some(Part::Other(packet(rt, said))),
         Comes::Nothing => None,
-    })
+    }
 }
 
 /// What comes of a call, and how many octets it takes.
@@ -328,13 +324,13 @@ fn expect_part(
     rest: &[u8],
     count: usize,
     wanted: &Option<Part<'_>>,
-) -> Result<usize, Fail>
-    ensures { IfOk result (λ t. t ≤ length rest.now) }
+) -> usize
+    ensures { result ≤ length rest.now }
 {
-    let (taken, returned) = pieces.take(rest)?;
+    let (taken, returned) = pieces.take(rest).expect(rt, "take");
     expect_eq_in(rt, &rest, &taken, &count);
     expect_in(rt, &rest, returned == *wanted);
-    Ok(taken)
+    taken
 }
 
 /// What comes of the calls, one after the other.
@@ -343,70 +339,61 @@ fn expect_parts<R: Abort + AllocGlobal>(
     pieces: &mut Pieces,
     octets: &[u8],
     calls: &[(usize, Comes<'static>)],
-) -> Result<(), Fail> {
+) {
     let mut rest = octets;
     for (count, comes) in calls {
-        let wanted = part(rt, *comes)?;
-        let taken = expect_part(rt, pieces, rest, *count, &wanted)?;
+        let wanted = part(rt, *comes);
+        let taken = expect_part(rt, pieces, rest, *count, &wanted);
         rest = &rest[taken..];
     }
-    Ok(())
 }
 
 #[test]
-fn parts_in_one_piece(rt: HostRuntime) -> Result<(), Fail> {
+fn parts_in_one_piece(rt: HostRuntime) {
     laws::parts_are_the_stream();
     for (octets, calls) in &PARTS {
-        expect_parts(&rt, &mut Pieces::new(), *octets, *calls)?;
+        expect_parts(&rt, &mut Pieces::new(), *octets, *calls);
     }
-    Ok(())
 }
 
 /// The longest message: its header, and 131,071 octets.
-fn longest_message<A: AllocGlobal>(rt: &A) -> Result<Vec<u8>, Fail> {
-    let mut octets = Vec::from_slice(rt.alloc(), b"\x00\x01\xFF\xFF")?;
+fn longest_message<A: Abort + AllocGlobal>(rt: &A) -> Vec<u8> {
+    let mut octets = Vec::from_slice(rt.alloc(), b"\x00\x01\xFF\xFF").expect(rt, "memory");
     for place in 0..131_071usize {
-        octets.push((place % 251) as u8)?;
+        octets.push((place % 251) as u8).expect(rt, "memory");
     }
-    Ok(octets)
+    octets
 }
 
 /// The stream is given each of these octets, and no packet comes of them.
-fn take_each(rt: &impl Abort, stream: &mut Stream, octets: &[u8]) -> Result<(), Fail> {
+fn take_each(rt: &impl Abort, stream: &mut Stream, octets: &[u8]) {
     for octet in octets {
-        let (taken, packet) = stream.take(&[*octet])?;
+        let (taken, packet) = stream.take(&[*octet]).expect(rt, "take");
         expect_eq(rt, &taken, &1);
         expect(rt, packet.is_none());
     }
-    Ok(())
 }
 
 /// With the last octet of a message it comes, and what stands behind it is not taken.
-fn take_last(
-    rt: &impl Abort,
-    stream: &mut Stream,
-    piece: &[u8],
-    message: &[u8],
-) -> Result<(), Fail> {
-    let (taken, packet) = stream.take(piece)?;
+fn take_last(rt: &impl Abort, stream: &mut Stream, piece: &[u8], message: &[u8]) {
+    let (taken, packet) = stream.take(piece).expect(rt, "take");
     expect_eq(rt, &taken, &1);
     let Some(Packet::Message(octets)) = packet else {
-        return Err("no message")?;
+        panic!(rt; "no message");
     };
     expect(rt, octets.as_slice() == message);
-    Ok(())
 }
 
-fn take_all(rt: &impl Abort, stream: &mut Stream, sent: &[u8]) -> Result<(), Fail> {
+fn take_all(rt: &impl Abort, stream: &mut Stream, sent: &[u8]) {
     expect(rt, sent.len() == 131_075);
     let last = sent.len().max(1) - 1;
-    take_each(rt, stream, &sent[..last])?;
+    take_each(rt, stream, &sent[..last]);
     take_last(rt, stream, &[sent[last], b'!'], &sent[4..])
 }
 
 #[test]
-fn the_longest_message_octet_by_octet(rt: HostRuntime) -> Result<(), Fail> {
-    let sent = longest_message(&rt)?;
+fn the_longest_message_octet_by_octet(rt: HostRuntime) {
+    let sent = longest_message(&rt);
     take_all(&rt, &mut Stream::new(rt.alloc()), sent.as_slice())
 }
 
@@ -418,27 +405,27 @@ fn take_piece<'a>(
     piece: &'a [u8],
     came: &mut Vec<u8>,
     others: &mut Vec<Part<'a>>,
-) -> Result<usize, Fail> {
+) -> usize {
     let mut rest = piece;
     let mut parts = 0usize;
     for _ in 0..4 {
-        let (taken, part) = pieces.take(rest)?;
+        let (taken, part) = pieces.take(rest).expect(rt, "take");
         rest = &rest[taken..];
         match part {
             None => break,
             Some(Part::MessageData(lent)) => {
                 expect(rt, !lent.is_empty());
-                came.extend_from_slice(lent)?;
+                came.extend_from_slice(lent).expect(rt, "memory");
                 parts = parts.saturating_add(1);
             }
             Some(other) => {
                 expect_eq(rt, &came.len(), &(131_071 * others.len().min(1)));
-                others.push(other)?;
+                others.push(other).expect(rt, "memory");
             }
         }
     }
     expect_eq(rt, &rest.len(), &0);
-    Ok(parts)
+    parts
 }
 
 /// The longest message, cut into pieces of a size: so many parts of data come, which are its octets in order.
@@ -449,11 +436,11 @@ fn take_pieces<'a>(
     wanted: usize,
     came: &mut Vec<u8>,
     others: &mut Vec<Part<'a>>,
-) -> Result<(), Fail> {
+) {
     let mut pieces = Pieces::new();
     let mut parts = 0usize;
     for piece in octets.chunks(size.max(1)) {
-        let more = take_piece(rt, &mut pieces, piece, came, others)?;
+        let more = take_piece(rt, &mut pieces, piece, came, others);
         parts = parts.saturating_add(more);
     }
     expect(rt, octets.len() == 131_075);
@@ -462,12 +449,11 @@ fn take_pieces<'a>(
     expect(rt, others[0] == Part::MessageStart(131_071));
     expect(rt, others[1] == Part::MessageEnd);
     expect_eq_in(rt, &size, &parts, &wanted);
-    Ok(())
 }
 
 #[test]
-fn the_longest_message_in_pieces(rt: HostRuntime) -> Result<(), Fail> {
-    let octets = longest_message(&rt)?;
+fn the_longest_message_in_pieces(rt: HostRuntime) {
+    let octets = longest_message(&rt);
     for (size, parts) in &[(1, 131_071), (1_460, 90), (131_075, 1)] {
         let mut came = Vec::new(rt.alloc());
         let mut others = Vec::new(rt.alloc());
@@ -478,29 +464,23 @@ fn the_longest_message_in_pieces(rt: HostRuntime) -> Result<(), Fail> {
             *parts,
             &mut came,
             &mut others,
-        )?;
+        );
     }
-    Ok(())
 }
 
 /// A name whose wire form has 255 octets: its scope has three labels of 63 octets and one of 28.
-fn longest() -> Result<Name, Fail> {
+fn longest(rt: &impl Abort) -> Name {
     let mut scope = [b'A'; 221];
     scope[0] = 63;
     scope[64] = 63;
     scope[128] = 63;
     scope[192] = 28;
-    fred(&scope)
+    fred(rt, &scope)
 }
 
 /// A request is written, and a stream in parts is given it octet by octet: it comes with the last one.
-fn take_request(
-    rt: &impl Abort,
-    request: Packet,
-    octets: &mut Vec<u8>,
-    pieces: &mut Pieces,
-) -> Result<(), Fail> {
-    encode(&request, octets)?;
+fn take_request(rt: &impl Abort, request: Packet, octets: &mut Vec<u8>, pieces: &mut Pieces) {
+    encode(&request, octets).expect(rt, "encoded");
     expect_eq(rt, &octets.len(), &514);
     let last = octets.len().max(1) - 1;
     for octet in &octets[..last] {
@@ -508,42 +488,40 @@ fn take_request(
     }
     let taken = pieces.take(&octets[last..]);
     expect(rt, taken == Ok((1, Some(Part::Other(request)))));
-    Ok(())
 }
 
 #[test]
-fn the_longest_request_octet_by_octet(rt: HostRuntime) -> Result<(), Fail> {
+fn the_longest_request_octet_by_octet(rt: HostRuntime) {
     let request = Packet::Request {
-        called: longest()?,
-        calling: longest()?,
+        called: longest(&rt),
+        calling: longest(&rt),
     };
     let mut octets = Vec::new(rt.alloc());
     take_request(&rt, request, &mut octets, &mut Pieces::new())
 }
 
 /// A message of as many octets `x` is written behind what stands there.
-fn write_message<A: AllocGlobal>(
+fn write_message<A: Abort + AllocGlobal>(
     rt: &A,
     count: usize,
     out: &mut Vec<u8>,
-) -> Result<Result<(), EncodeFault>, Fail> {
+) -> Result<(), EncodeFault> {
     let mut octets = Vec::new(rt.alloc());
-    octets.resize(count, b'x')?;
-    Ok(encode(&Packet::Message(octets), out))
+    octets.resize(count, b'x').expect(rt, "memory");
+    encode(&Packet::Message(octets), out)
 }
 
 #[test]
-fn a_message_of_131072_octets_is_too_long(rt: HostRuntime) -> Result<(), Fail> {
+fn a_message_of_131072_octets_is_too_long(rt: HostRuntime) {
     let mut out = Vec::new(rt.alloc());
-    let written = write_message(&rt, 131_071, &mut out)?;
+    let written = write_message(&rt, 131_071, &mut out);
     expect_eq(&rt, &written, &Ok(()));
     expect(&rt, out.len() == 131_075);
     expect_eq(&rt, &&out[..5], &b"\x00\x01\xFF\xFFx".as_slice());
     out.truncate(2);
-    let refused = write_message(&rt, 131_072, &mut out)?;
+    let refused = write_message(&rt, 131_072, &mut out);
     expect_eq(&rt, &refused, &Err(EncodeFault::TooLong));
     expect_eq(&rt, &out.as_slice(), &b"\x00\x01".as_slice());
-    Ok(())
 }
 
 /// What `take` returns, called again where memory was refused.
@@ -573,12 +551,12 @@ fn take_255(rt: &impl Abort, stream: &mut Stream) {
 }
 
 /// The octets from 0 to 255.
-fn all_octets<R: AllocGlobal>(rt: &R) -> Result<Vec<u8>, Fail> {
+fn all_octets<R: Abort + AllocGlobal>(rt: &R) -> Vec<u8> {
     let mut sent = Vec::new(rt.alloc());
     for place in 0..=255u8 {
-        sent.push(place)?;
+        sent.push(place).expect(rt, "memory");
     }
-    Ok(sent)
+    sent
 }
 
 /// What the stream makes of a piece.
@@ -593,21 +571,20 @@ fn take_so(
 }
 
 /// The stream takes a message octet by octet, and then the pieces.
-fn take_growing<R: Abort + AllocGlobal>(rt: &R, stream: &mut Stream) -> Result<(), Fail> {
-    let message = Packet::Message(all_octets(rt)?);
+fn take_growing<R: Abort + AllocGlobal>(rt: &R, stream: &mut Stream) {
+    let message = Packet::Message(all_octets(rt));
     take_255(rt, stream);
     take_so(rt, stream, b"\xFF\x85\x00\x00\x00", 1, Some(message));
     for (piece, taken, said) in &MEMORY {
-        let wanted = packet(rt, *said)?;
+        let wanted = packet(rt, *said);
         take_so(rt, stream, *piece, *taken, Some(wanted));
     }
-    Ok(())
 }
 
 /// With `rt try --test --fail-alloc N` the Nth allocation is refused. Where it is one of the stream's, nothing is
 /// taken, and the same call with memory returns what it would have.
 #[test]
-fn refused_memory_leaves_the_stream(rt: HostRuntime) -> Result<(), Fail> {
+fn refused_memory_leaves_the_stream(rt: HostRuntime) {
     laws::one_answer();
     take_growing(&rt, &mut Stream::new(rt.alloc()))
 }
@@ -632,11 +609,10 @@ fn write_one_more(rt: &impl Abort, octets: &mut Vec<u8>) {
 
 /// The same for what is written: the octets are as before.
 #[test]
-fn refused_memory_leaves_the_octets(rt: HostRuntime) -> Result<(), Fail> {
+fn refused_memory_leaves_the_octets(rt: HostRuntime) {
     let mut octets: Vec<u8> = Vec::new(rt.alloc());
     for count in 0..200 {
         write_one_more(&rt, &mut octets);
         expect_eq(&rt, &octets.len(), &(10 * (count + 1)));
     }
-    Ok(())
 }

@@ -12,7 +12,6 @@ use nbt_testing::{EVERY_KIND, REGISTRATION, config, octets, registration_of_many
 use nbt_world::Outcome::{self, Done, Down, Lost, Nobody, Nothing, Refused, Sent, Taken};
 use nbt_world::{Event, OutOfMemory, World};
 use std::process::Abort;
-use std::test::Fail;
 
 const SERVER: Addr = Addr {
     ip: 0x7F000001,
@@ -68,8 +67,8 @@ enum Does {
 /// An event, and what comes of it.
 type Row = (Does, Outcome);
 
-fn world<R: AllocGlobal>(rt: &R) -> Result<World, Fail> {
-    Ok(World::new(rt.alloc(), config(4096)?, &ENDS)?)
+fn world<R: Abort + AllocGlobal>(rt: &R) -> World {
+    World::new(rt.alloc(), config(4096).expect(rt, "limits"), &ENDS).expect(rt, "a world")
 }
 
 fn asks(node: usize, name: Name, kind: Kind) -> Event {
@@ -82,8 +81,8 @@ fn asks(node: usize, name: Name, kind: Kind) -> Event {
 }
 
 /// The event, about this name if it is about one.
-fn event_of<R: AllocGlobal>(rt: &R, does: Does, name: Name) -> Result<Event, Fail> {
-    Ok(match does {
+fn event_of<R: Abort + AllocGlobal>(rt: &R, does: Does, name: Name) -> Event {
+    match does {
         Tick(ms) => Event::Tick(ms),
         Advance(ms, readings) => Event::Advance { ms, readings },
         Start(end) => Event::Start(end),
@@ -97,10 +96,10 @@ fn event_of<R: AllocGlobal>(rt: &R, does: Does, name: Name) -> Result<Event, Fai
         Poll(node) => Event::Poll(node),
         Deliver(number) => Event::Deliver(number),
         Stranger(from, to, words) => {
-            let octets = octets(rt, words)?;
+            let octets = octets(rt, words).expect(rt, "octets");
             Event::Stranger { from, to, octets }
         }
-    })
+    }
 }
 
 /// The octets of the name that an event is about, if it is about one.
@@ -115,8 +114,8 @@ fn name_in(does: Does) -> Option<&'static [u8; 16]> {
     }
 }
 
-fn event<R: AllocGlobal>(rt: &R, does: Does) -> Result<Event, Fail> {
-    let name = Name::new(name_in(does).unwrap_or(FRED), b"")?;
+fn event<R: Abort + AllocGlobal>(rt: &R, does: Does) -> Event {
+    let name = Name::new(name_in(does).unwrap_or(FRED), b"").expect(rt, "a name");
     event_of(rt, does, name)
 }
 
@@ -130,38 +129,25 @@ fn apart<R: Abort>(rt: &R, world: &World, name: &Name) {
 }
 
 /// Each event in turn has this outcome, and after each no two ends hold FRED or TEAM, unless both as a group.
-fn play<R: Abort + AllocGlobal>(
-    rt: &R,
-    what: &str,
-    world: &mut World,
-    rows: &[Row],
-) -> Result<(), Fail> {
-    let fred = Name::new(FRED, b"")?;
-    let team = Name::new(TEAM, b"")?;
+fn play<R: Abort + AllocGlobal>(rt: &R, what: &str, world: &mut World, rows: &[Row]) {
+    let fred = Name::new(FRED, b"").expect(rt, "a name");
+    let team = Name::new(TEAM, b"").expect(rt, "a name");
     for (number, (does, outcome)) in rows.iter().enumerate() {
-        let event = event(rt, *does)?;
-        let got = world.step(&event)?;
+        let event = event(rt, *does);
+        let got = world.step(&event).expect(rt, "step");
         expect_eq_in(rt, &(what, number), &got, &*outcome);
         apart(rt, world, &fred);
         apart(rt, world, &team);
     }
-    Ok(())
 }
 
 /// These nodes hold the name.
-fn holders(
-    rt: &impl Abort,
-    what: &str,
-    world: &World,
-    name: &[u8; 16],
-    nodes: &[usize],
-) -> Result<(), Fail> {
-    let holders = world.holders(&Name::new(name, b"")?);
+fn holders(rt: &impl Abort, what: &str, world: &World, name: &[u8; 16], nodes: &[usize]) {
+    let holders = world.holders(&Name::new(name, b"").expect(rt, "a name"));
     expect_eq_in(rt, &what, &holders.len(), &nodes.len());
     for (holder, node) in holders.as_slice().iter().zip(nodes) {
         expect_eq_in(rt, &what, &holder.node, &*node);
     }
-    Ok(())
 }
 
 /// Rows, and the nodes that hold FRED after them.
@@ -277,36 +263,31 @@ const RENEWING: [Held; 6] = [
 ];
 
 /// The events of the rows.
-fn events<R: AllocGlobal>(rt: &R, rows: &[Row]) -> Result<Vec<Event>, Fail> {
+fn events<R: Abort + AllocGlobal>(rt: &R, rows: &[Row]) -> Vec<Event> {
     let mut events = Vec::new(rt.alloc());
     for (does, _) in rows {
-        events.push(event(rt, *does)?)?;
+        events.push(event(rt, *does)).expect(rt, "memory");
     }
-    Ok(events)
+    events
 }
 
 /// The events go on to their end in one run, and then these nodes hold FRED.
-fn run_one<R: Abort + AllocGlobal>(rt: &R, world: &mut World, held: &Held) -> Result<(), Fail> {
-    let events = events(rt, held.0)?;
+fn run_one<R: Abort + AllocGlobal>(rt: &R, world: &mut World, held: &Held) {
+    let events = events(rt, held.0);
     expect_eq(rt, &world.run(events.as_slice()), &Ok(()));
     holders(rt, "in one run", world, FRED, held.1)
 }
 
 /// So do those of each part.
-fn run_parts<R: Abort + AllocGlobal>(
-    rt: &R,
-    world: &mut World,
-    parts: &[Held],
-) -> Result<(), Fail> {
+fn run_parts<R: Abort + AllocGlobal>(rt: &R, world: &mut World, parts: &[Held]) {
     for held in parts {
-        run_one(rt, world, held)?;
+        run_one(rt, world, held);
     }
-    Ok(())
 }
 
 #[test]
-fn a_run_in_which_a_node_renews_goes_on_to_its_end(rt: HostRuntime) -> Result<(), Fail> {
-    run_parts(&rt, &mut world(&rt)?, &RENEWING)
+fn a_run_in_which_a_node_renews_goes_on_to_its_end(rt: HostRuntime) {
+    run_parts(&rt, &mut world(&rt), &RENEWING)
 }
 
 const STRANGERS: [Row; 9] = [
@@ -322,42 +303,29 @@ const STRANGERS: [Row; 9] = [
 ];
 
 /// These octets come from the stranger 127.0.0.2 to an end: they are taken, and not replied to.
-fn cut_one<R: Abort + AllocGlobal>(
-    rt: &R,
-    world: &mut World,
-    to: usize,
-    came: &[u8],
-) -> Result<(), Fail> {
+fn cut_one<R: Abort + AllocGlobal>(rt: &R, world: &mut World, to: usize, came: &[u8]) {
     let event = Event::Stranger {
         from: FIRST,
         to,
-        octets: Vec::from_slice(rt.alloc(), came)?,
+        octets: Vec::from_slice(rt.alloc(), came).expect(rt, "memory"),
     };
-    let got = world.step(&event)?;
+    let got = world.step(&event).expect(rt, "step");
     expect_eq_in(rt, &came, &got, &Taken);
-    Ok(())
 }
 
 /// So is a packet that is cut to each shorter length.
-fn cut_each<R: Abort + AllocGlobal>(
-    rt: &R,
-    world: &mut World,
-    to: usize,
-    whole: &[u8],
-) -> Result<(), Fail> {
+fn cut_each<R: Abort + AllocGlobal>(rt: &R, world: &mut World, to: usize, whole: &[u8]) {
     for length in 0..whole.len() {
-        cut_one(rt, world, to, &whole[..length])?;
+        cut_one(rt, world, to, &whole[..length]);
     }
-    Ok(())
 }
 
 /// So are the packets of every kind.
-fn cut<R: Abort + AllocGlobal>(rt: &R, world: &mut World, to: usize) -> Result<(), Fail> {
+fn cut<R: Abort + AllocGlobal>(rt: &R, world: &mut World, to: usize) {
     for words in &EVERY_KIND {
-        let whole = octets(rt, words)?;
-        cut_each(rt, world, to, whole.as_slice())?;
+        let whole = octets(rt, words).expect(rt, "octets");
+        cut_each(rt, world, to, whole.as_slice());
     }
-    Ok(())
 }
 
 /// Of a server and the node at 127.0.0.3.
@@ -380,8 +348,13 @@ const STATUS_REQUEST: &str = "0009 0000 one-name STAR NBSTAT";
 /// A world without a node at 127.0.0.2, where a stranger is.
 const BESIDE_A_STRANGER: [Addr; 2] = [SERVER, SECOND];
 
-fn with_a_stranger<R: AllocGlobal>(rt: &R) -> Result<World, Fail> {
-    Ok(World::new(rt.alloc(), config(4096)?, &BESIDE_A_STRANGER)?)
+fn with_a_stranger<R: Abort + AllocGlobal>(rt: &R) -> World {
+    World::new(
+        rt.alloc(),
+        config(4096).expect(rt, "limits"),
+        &BESIDE_A_STRANGER,
+    )
+    .expect(rt, "a world")
 }
 
 const GROUP: [Row; 10] = [
@@ -398,13 +371,12 @@ const GROUP: [Row; 10] = [
 ];
 
 /// These nodes hold TEAM, each as a group.
-fn expect_group(rt: &impl Abort, what: &str, world: &World, nodes: &[usize]) -> Result<(), Fail> {
-    holders(rt, what, world, TEAM, nodes)?;
-    let holders = world.holders(&Name::new(TEAM, b"")?);
+fn expect_group(rt: &impl Abort, what: &str, world: &World, nodes: &[usize]) {
+    holders(rt, what, world, TEAM, nodes);
+    let holders = world.holders(&Name::new(TEAM, b"").expect(rt, "a name"));
     for holder in holders.as_slice() {
         expect_eq_in(rt, &what, &holder.kind, &Kind::Group);
     }
-    Ok(())
 }
 
 const LOOKUPS: [Row; 9] = [
@@ -544,25 +516,14 @@ enum Part {
     Limit(u32, bool),
 }
 
-fn play_held<R: Abort + AllocGlobal>(
-    rt: &R,
-    what: &str,
-    world: &mut World,
-    parts: &[Held],
-) -> Result<(), Fail> {
+fn play_held<R: Abort + AllocGlobal>(rt: &R, what: &str, world: &mut World, parts: &[Held]) {
     for (rows, nodes) in parts {
-        play(rt, what, world, rows)?;
-        holders(rt, what, world, FRED, nodes)?;
+        play(rt, what, world, rows);
+        holders(rt, what, world, FRED, nodes);
     }
-    Ok(())
 }
 
-fn play_part<R: Abort + AllocGlobal>(
-    rt: &R,
-    what: &str,
-    world: &mut World,
-    part: &Part,
-) -> Result<(), Fail> {
+fn play_part<R: Abort + AllocGlobal>(rt: &R, what: &str, world: &mut World, part: &Part) {
     match *part {
         Part::Rows(rows) => play(rt, what, world, rows),
         Part::Held(parts) => play_held(rt, what, world, parts),
@@ -570,26 +531,18 @@ fn play_part<R: Abort + AllocGlobal>(
         Part::Clock(ms, kept) => {
             expect_eq_in(rt, &what, &world.clock().get(), &ms);
             expect_eq_in(rt, &what, &world.kept(), &kept);
-            Ok(())
         }
         Part::Cut(to) => cut(rt, world, to),
         Part::Limit(rows, is_up) => {
             expect_eq_in(rt, &what, &world.limit_clients(rows), &is_up);
-            Ok(())
         }
     }
 }
 
-fn play_parts<R: Abort + AllocGlobal>(
-    rt: &R,
-    what: &str,
-    world: &mut World,
-    parts: &[Part],
-) -> Result<(), Fail> {
+fn play_parts<R: Abort + AllocGlobal>(rt: &R, what: &str, world: &mut World, parts: &[Part]) {
     for part in parts {
-        play_part(rt, what, world, part)?;
+        play_part(rt, what, world, part);
     }
-    Ok(())
 }
 
 /// What the case shows; the addresses of a world's ends; and what happens in it. A function returns each table, since the prover
@@ -717,22 +670,21 @@ fn ends_and_strangers() -> &'static [Case] {
 }
 
 /// A case in a new world.
-fn play_case<R: Abort + AllocGlobal>(rt: &R, case: &Case) -> Result<(), Fail> {
-    let config = config(4096)?;
-    let mut world = World::new(rt.alloc(), config, case.1)?;
+fn play_case<R: Abort + AllocGlobal>(rt: &R, case: &Case) {
+    let config = config(4096).expect(rt, "limits");
+    let mut world = World::new(rt.alloc(), config, case.1).expect(rt, "a world");
     play_parts(rt, case.0, &mut world, case.2)
 }
 
-fn play_cases<R: Abort + AllocGlobal>(rt: &R, cases: &[Case]) -> Result<(), Fail> {
+fn play_cases<R: Abort + AllocGlobal>(rt: &R, cases: &[Case]) {
     for case in cases {
-        play_case(rt, case)?;
+        play_case(rt, case);
     }
-    Ok(())
 }
 
 #[test]
-fn events_and_what_comes_of_them(rt: HostRuntime) -> Result<(), Fail> {
-    play_cases(&rt, holds())?;
+fn events_and_what_comes_of_them(rt: HostRuntime) {
+    play_cases(&rt, holds());
     play_cases(&rt, ends_and_strangers())
 }
 
@@ -745,12 +697,11 @@ const SAME: [Addr; 2] = [
 ];
 
 #[test]
-fn addresses_are_two_to_nine_and_apart_in_their_32_bits(rt: HostRuntime) -> Result<(), Fail> {
-    let config = config(4096)?;
+fn addresses_are_two_to_nine_and_apart_in_their_32_bits(rt: HostRuntime) {
+    let config = config(4096).expect(&rt, "limits");
     expect(&rt, !begins(&rt, config, &SAME));
     expect(&rt, !begins(&rt, config, &ENDS[..1]));
     expect(&rt, begins(&rt, config, &ENDS[..2]));
-    Ok(())
 }
 
 /// Whether there is a world with these ends.
@@ -781,112 +732,91 @@ const ROUND: [Does; 18] = [
 ];
 
 /// An event happens, and after it the delivery of what it sent, and that of the reply; they are put into the list.
-fn happen(world: &mut World, first: Event, events: &mut Vec<Event>) -> Result<(), Fail> {
-    let mut outcome = world.step(&first)?;
-    events.push(first)?;
+fn happen(rt: &impl Abort, world: &mut World, first: Event, events: &mut Vec<Event>) {
+    let mut outcome = world.step(&first).expect(rt, "step");
+    events.push(first).expect(rt, "memory");
     for _ in 0..2 {
         let Sent(number) = outcome else {
-            return Ok(());
+            return;
         };
-        outcome = world.step(&Event::Deliver(number))?;
-        events.push(Event::Deliver(number))?;
+        outcome = world.step(&Event::Deliver(number)).expect(rt, "step");
+        events.push(Event::Deliver(number)).expect(rt, "memory");
     }
-    Ok(())
 }
 
 /// The same nodes hold the name in both worlds.
-fn expect_same_holders(
-    rt: &impl Abort,
-    one: &World,
-    other: &World,
-    name: &[u8; 16],
-) -> Result<(), Fail> {
-    let name = Name::new(name, b"")?;
+fn expect_same_holders(rt: &impl Abort, one: &World, other: &World, name: &[u8; 16]) {
+    let name = Name::new(name, b"").expect(rt, "a name");
     let holders = other.holders(&name);
     expect_eq(rt, &one.holders(&name).as_slice(), &holders.as_slice());
-    Ok(())
 }
 
 /// The same comes of the event in both worlds.
-fn expect_same_step(
-    rt: &impl Abort,
-    one: &mut World,
-    other: &mut World,
-    event: &Event,
-) -> Result<(), Fail> {
-    let outcome = one.step(event)?;
-    expect_eq(rt, &outcome, &other.step(event)?);
-    Ok(())
+fn expect_same_step(rt: &impl Abort, one: &mut World, other: &mut World, event: &Event) {
+    let outcome = one.step(event).expect(rt, "step");
+    expect_eq(rt, &outcome, &other.step(event).expect(rt, "step"));
 }
 
 /// Both worlds have the same holders, and the same comes of the delivery of each datagram, and of a request after them.
-fn expect_same<R: Abort + AllocGlobal>(
-    rt: &R,
-    one: &mut World,
-    other: &mut World,
-) -> Result<(), Fail> {
-    expect_same_holders(rt, one, other, FRED)?;
-    expect_same_holders(rt, one, other, TEAM)?;
+fn expect_same<R: Abort + AllocGlobal>(rt: &R, one: &mut World, other: &mut World) {
+    expect_same_holders(rt, one, other, FRED);
+    expect_same_holders(rt, one, other, TEAM);
     for number in 0..400 {
-        expect_same_step(rt, one, other, &Event::Deliver(number))?;
+        expect_same_step(rt, one, other, &Event::Deliver(number));
     }
-    expect_same_step(rt, one, other, &Event::Start(2))?;
-    let lookup = event(rt, Resolve(2, FRED))?;
+    expect_same_step(rt, one, other, &Event::Start(2));
+    let lookup = event(rt, Resolve(2, FRED));
     expect_same_step(rt, one, other, &lookup)
 }
 
 /// Events of all kinds happen once, each after what came of the one before it. They are put into the list.
-fn round<R: AllocGlobal>(rt: &R, world: &mut World, list: &mut Vec<Event>) -> Result<(), Fail> {
+fn round<R: Abort + AllocGlobal>(rt: &R, world: &mut World, list: &mut Vec<Event>) {
     for does in &ROUND {
-        happen(world, event(rt, *does)?, list)?;
+        happen(rt, world, event(rt, *does), list);
     }
-    Ok(())
 }
 
 /// Hundreds of events happen, one by one. They are put into the list.
-fn rounds<R: AllocGlobal>(rt: &R, world: &mut World, list: &mut Vec<Event>) -> Result<(), Fail> {
+fn rounds<R: Abort + AllocGlobal>(rt: &R, world: &mut World, list: &mut Vec<Event>) {
     for _ in 0..12 {
-        round(rt, world, list)?;
+        round(rt, world, list);
     }
-    Ok(())
 }
 
 /// In one run of a new world the same comes of these events as in one where they happened one by one.
-fn expect_same_run<R: Abort + AllocGlobal>(
-    rt: &R,
-    stepped: &mut World,
-    events: &[Event],
-) -> Result<(), Fail> {
+fn expect_same_run<R: Abort + AllocGlobal>(rt: &R, stepped: &mut World, events: &[Event]) {
     expect(rt, events.len() > 300);
-    let mut run = world(rt)?;
+    let mut run = world(rt);
     expect_eq(rt, &run.run(events), &Ok(()));
     expect_same(rt, &mut run, stepped)
 }
 
 /// In a world that is new the events happen one by one, and then in one run of another.
-fn expect_same_in_a_run<R: Abort + AllocGlobal>(rt: &R, stepped: &mut World) -> Result<(), Fail> {
+fn expect_same_in_a_run<R: Abort + AllocGlobal>(rt: &R, stepped: &mut World) {
     let mut list = Vec::new(rt.alloc());
-    rounds(rt, stepped, &mut list)?;
+    rounds(rt, stepped, &mut list);
     expect_same_run(rt, stepped, list.as_slice())
 }
 
 #[test]
-fn a_run_of_hundreds_of_events_ends_where_they_do_one_by_one(rt: HostRuntime) -> Result<(), Fail> {
-    expect_same_in_a_run(&rt, &mut world(&rt)?)
+fn a_run_of_hundreds_of_events_ends_where_they_do_one_by_one(rt: HostRuntime) {
+    expect_same_in_a_run(&rt, &mut world(&rt))
 }
 
 /// The registrations of 4,096 names by the stranger at 127.0.0.2.
-fn registrations<R: AllocGlobal>(rt: &R) -> Result<Vec<Event>, Fail> {
+fn registrations<R: Abort + AllocGlobal>(rt: &R) -> Vec<Event> {
     let mut events = Vec::new(rt.alloc());
     for number in 0..4096 {
-        let octets = registration_of_many(rt, number)?;
-        events.push(Event::Stranger {
-            from: FIRST,
-            to: 0,
-            octets,
-        })?;
+        let octets = registration_of_many(rt, number).expect(rt, "a registration");
+        events
+            .push(Event::Stranger {
+                from: FIRST,
+                to: 0,
+                octets,
+            })
+            .expect(rt, "memory");
     }
-    Ok(events)
+    events
 }
 
 /// One by one each of these is replied to in one world. In a run they are too in another: the next datagram has the number of as
@@ -896,35 +826,35 @@ fn expect_replies<R: Abort + AllocGlobal>(
     one: &mut World,
     other: &mut World,
     events: &[Event],
-) -> Result<(), Fail> {
-    play(rt, "one by one", one, &UP)?;
+) {
+    play(rt, "one by one", one, &UP);
     for (number, event) in events.iter().enumerate() {
-        expect_eq(rt, &one.step(event)?, &Sent(number));
+        expect_eq(rt, &one.step(event).expect(rt, "step"), &Sent(number));
     }
-    play(rt, "in a run", other, &UP)?;
+    play(rt, "in a run", other, &UP);
     expect_eq(rt, &other.run(events), &Ok(()));
     play(rt, "after a run", other, &[(Resolve(1, FRED), Sent(4096))])
 }
 
 #[test]
-fn nothing_lost_in_a_world(rt: HostRuntime) -> Result<(), Fail> {
-    let events = registrations(&rt)?;
-    let mut one = with_a_stranger(&rt)?;
-    let mut other = with_a_stranger(&rt)?;
+fn nothing_lost_in_a_world(rt: HostRuntime) {
+    let events = registrations(&rt);
+    let mut one = with_a_stranger(&rt);
+    let mut other = with_a_stranger(&rt);
     expect_replies(&rt, &mut one, &mut other, events.as_slice())
 }
 
 /// The events are taken, and the delivery of the grant: what is refused memory happens once more.
-fn run_at_last<R: Abort>(rt: &R, world: &mut World, events: &[Event]) -> Result<(), Fail> {
+fn run_at_last<R: Abort>(rt: &R, world: &mut World, events: &[Event]) {
     if let Err((number, OutOfMemory)) = world.run(events) {
         expect(rt, number >= 3);
         expect(rt, number < events.len());
-        world.run(&events[number..])?;
+        world.run(&events[number..]).expect(rt, "run");
     }
     let first = world.step(&Event::Deliver(1));
     let taken = match first {
         Ok(outcome) => outcome,
-        Err(_) => world.step(&Event::Deliver(1))?,
+        Err(_) => world.step(&Event::Deliver(1)).expect(rt, "step"),
     };
     expect_eq(rt, &taken, &Taken);
     holders(rt, "at last", world, FRED, &[1])
@@ -934,10 +864,8 @@ fn run_at_last<R: Abort>(rt: &R, world: &mut World, events: &[Event]) -> Result<
 /// needed stops the run before its event, which is then taken once more; one that the server needed loses a datagram,
 /// which comes again.
 #[test]
-fn refused_memory_stops_a_run_before_its_event_or_loses_a_datagram(
-    rt: HostRuntime,
-) -> Result<(), Fail> {
-    let ask = asks(1, Name::new(FRED, b"")?, Kind::Unique);
+fn refused_memory_stops_a_run_before_its_event_or_loses_a_datagram(rt: HostRuntime) {
+    let ask = asks(1, Name::new(FRED, b"").expect(&rt, "a name"), Kind::Unique);
     let events = [
         Event::Start(0),
         Event::Start(1),
@@ -946,7 +874,7 @@ fn refused_memory_stops_a_run_before_its_event_or_loses_a_datagram(
         Event::Deliver(0),
         Event::Deliver(0),
     ];
-    run_at_last(&rt, &mut world(&rt)?, events.as_slice())
+    run_at_last(&rt, &mut world(&rt), events.as_slice())
 }
 
 /// Each growth of a world: what is sent, and the leases of its server.
@@ -977,33 +905,27 @@ const EACH_GROWTH: [Row; 15] = [
 
 /// An event's outcome. Where memory was refused to the world, or to its server, which lost the datagram, the event happens
 /// once more.
-fn expect_at_last<R: Abort + AllocGlobal>(
-    rt: &R,
-    world: &mut World,
-    does: Does,
-    outcome: Outcome,
-) -> Result<(), Fail> {
-    let happens = event(rt, does)?;
+fn expect_at_last<R: Abort + AllocGlobal>(rt: &R, world: &mut World, does: Does, outcome: Outcome) {
+    let happens = event(rt, does);
     let mut got = world.step(&happens);
     if got == Err(OutOfMemory) || got == Ok(Lost) {
         got = world.step(&happens);
     }
     expect_eq(rt, &got, &Ok(outcome));
-    Ok(())
 }
 
 /// Each event in turn has its outcome, some of them at the second time.
-fn play_growing<R: Abort + AllocGlobal>(rt: &R, world: &mut World) -> Result<(), Fail> {
+fn play_growing<R: Abort + AllocGlobal>(rt: &R, world: &mut World) {
     for (does, outcome) in &EACH_GROWTH {
-        expect_at_last(rt, world, *does, *outcome)?;
+        expect_at_last(rt, world, *does, *outcome);
     }
-    holders(rt, "each growth", world, FRED, &[1])?;
+    holders(rt, "each growth", world, FRED, &[1]);
     holders(rt, "each growth", world, TEAM, &[1, 2])
 }
 
 /// `rt try --test --fail-alloc N` refuses the Nth allocation: where it is one of the world's, the same event has its
 /// outcome when it happens again.
 #[test]
-fn refused_memory_at_each_growth_of_a_world(rt: HostRuntime) -> Result<(), Fail> {
-    play_growing(&rt, &mut world(&rt)?)
+fn refused_memory_at_each_growth_of_a_world(rt: HostRuntime) {
+    play_growing(&rt, &mut world(&rt))
 }

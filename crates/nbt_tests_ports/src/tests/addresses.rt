@@ -7,7 +7,6 @@ use nbt_port::{Bind, Device, Fault, Port, Route, Routes, UdpPort, UdpPorts, own_
 use std::net::Net;
 use std::process::Abort;
 use std::rt::Files;
-use std::test::Fail;
 use std::time;
 
 /// A list as Linux writes it, of a machine with two interfaces, of which one has two addresses.
@@ -73,16 +72,15 @@ const LISTS: [(&str, &[u32]); 12] = [
     ("+-- 192.0.2.1 2 0 2\n/32 host LOCAL\n", &[]),
 ];
 
-fn expect_lists<R: Abort + AllocGlobal>(rt: &R, lists: &[(&str, &[u32])]) -> Result<(), Fail> {
+fn expect_lists<R: Abort + AllocGlobal>(rt: &R, lists: &[(&str, &[u32])]) {
     for (list, own) in lists {
-        let found = own_addresses(rt.alloc(), list.as_bytes())?;
+        let found = own_addresses(rt.alloc(), list.as_bytes()).expect(rt, "own addresses");
         expect_eq_in(rt, list, &found.as_slice(), own);
     }
-    Ok(())
 }
 
 #[test]
-fn own_addresses_of_a_machine(rt: HostRuntime) -> Result<(), Fail> {
+fn own_addresses_of_a_machine(rt: HostRuntime) {
     expect_lists(&rt, &LISTS)
 }
 
@@ -155,11 +153,10 @@ fn expect_full<R: Abort>(rt: &R, routes: &mut Routes) {
 }
 
 #[test]
-fn routes_of_replies(rt: HostRuntime) -> Result<(), Fail> {
-    let mut routes = Routes::new(rt.alloc())?;
+fn routes_of_replies(rt: HostRuntime) {
+    let mut routes = Routes::new(rt.alloc()).expect(&rt, "routes");
     expect_routes(&rt, &mut routes, &ROUTES);
     expect_full(&rt, &mut routes);
-    Ok(())
 }
 
 /// What a port does.
@@ -245,18 +242,18 @@ fn play<R: Abort, P: Port>(
     first: &mut UdpPort,
     second: &mut UdpPort,
     acts: &[Act],
-) -> Result<(), Fail> {
+) {
     let mut octets = ArrayVec::new();
     for act in acts {
         match *act {
             Act::Sends(from, to, sent) => {
-                send(rt, host_of(first, second, from), at(to), sent)?;
+                send(rt, host_of(first, second, from), at(to), sent).expect(rt, "sent");
             }
             Act::Receives(from, sent) => {
                 expect_eq_in(
                     rt,
                     act,
-                    &receive(rt, port, true, &mut octets)?,
+                    &receive(rt, port, true, &mut octets).expect(rt, "received"),
                     &Some(host(from)),
                 );
                 expect_eq_in(rt, act, &octets.as_slice(), &sent);
@@ -265,58 +262,73 @@ fn play<R: Abort, P: Port>(
                 expect_eq_in(
                     rt,
                     act,
-                    &receive(rt, port, false, &mut octets)?,
+                    &receive(rt, port, false, &mut octets).expect(rt, "received"),
                     &Some(host(from)),
                 );
                 expect_eq_in(rt, act, &octets.as_slice(), &sent);
             }
             Act::Nothing => {
-                expect_eq_in(rt, act, &receive(rt, port, true, &mut octets)?, &None);
-                expect_eq_in(rt, act, &receive(rt, port, false, &mut octets)?, &None);
+                expect_eq_in(
+                    rt,
+                    act,
+                    &receive(rt, port, true, &mut octets).expect(rt, "received"),
+                    &None,
+                );
+                expect_eq_in(
+                    rt,
+                    act,
+                    &receive(rt, port, false, &mut octets).expect(rt, "received"),
+                    &None,
+                );
                 expect(rt, octets.is_empty());
             }
             Act::Replies(to, from, sent) => {
-                send(rt, port, host(to), sent)?;
+                send(rt, port, host(to), sent).expect(rt, "sent");
                 let other = host_of(first, second, to);
                 expect_eq_in(
                     rt,
                     act,
-                    &receive(rt, other, true, &mut octets)?,
+                    &receive(rt, other, true, &mut octets).expect(rt, "received"),
                     &Some(at(from)),
                 );
                 expect_eq_in(rt, act, &octets.as_slice(), &sent);
             }
         }
     }
-    Ok(())
 }
 
 /// Many datagrams at one address don't keep one at another from being received.
-fn expect_fair<R: Abort, P: Port>(
-    rt: &R,
-    port: &mut P,
-    first: &mut UdpPort,
-    second: &mut UdpPort,
-) -> Result<(), Fail> {
+fn expect_fair<R: Abort, P: Port>(rt: &R, port: &mut P, first: &mut UdpPort, second: &mut UdpPort) {
     let mut octets = ArrayVec::new();
     for _ in 0..40 {
-        send(rt, first, at(1), b"flood")?;
+        send(rt, first, at(1), b"flood").expect(rt, "sent");
     }
-    expect_eq(rt, &receive(rt, port, true, &mut octets)?, &Some(host(1)));
-    send(rt, second, at(3), b"once")?;
+    expect_eq(
+        rt,
+        &receive(rt, port, true, &mut octets).expect(rt, "received"),
+        &Some(host(1)),
+    );
+    send(rt, second, at(3), b"once").expect(rt, "sent");
     let mut before = 40;
     for turn in 0u32..40 {
-        if receive(rt, port, true, &mut octets)? == Some(host(2)) {
+        if receive(rt, port, true, &mut octets).expect(rt, "received") == Some(host(2)) {
             before = turn;
             break;
         }
     }
     expect(rt, before < 3);
     for _ in before..39 {
-        expect_eq(rt, &receive(rt, port, false, &mut octets)?, &Some(host(1)));
+        expect_eq(
+            rt,
+            &receive(rt, port, false, &mut octets).expect(rt, "received"),
+            &Some(host(1)),
+        );
     }
-    expect_eq(rt, &receive(rt, port, true, &mut octets)?, &None);
-    Ok(())
+    expect_eq(
+        rt,
+        &receive(rt, port, true, &mut octets).expect(rt, "received"),
+        &None,
+    );
 }
 
 /// What can't be sent is a failure, for which the address is known from which it should have left; what has no way is lost.
@@ -325,55 +337,63 @@ fn expect_failures<R: Abort + AllocGlobal, P: Port>(
     port: &mut P,
     first: &mut UdpPort,
     long: &[u8],
-) -> Result<(), Fail> {
+) {
     let mut octets = ArrayVec::new();
-    send(rt, port, Addr { port: 0, ..host(1) }, b"nowhere")?;
+    send(rt, port, Addr { port: 0, ..host(1) }, b"nowhere").expect(rt, "sent");
     expect_eq(rt, &port.failures(), &0);
-    send(rt, first, at(2), b"long")?;
-    expect_eq(rt, &receive(rt, port, true, &mut octets)?, &Some(host(1)));
+    send(rt, first, at(2), b"long").expect(rt, "sent");
+    expect_eq(
+        rt,
+        &receive(rt, port, true, &mut octets).expect(rt, "received"),
+        &Some(host(1)),
+    );
     expect_eq(rt, &send(rt, port, host(1), long), &Err(Device));
     expect_eq(rt, &port.failures(), &1);
     let mut said = Vec::new(rt.alloc());
-    port.cause().ok_or("no cause")?.tell("", &mut said);
+    port.cause().expect(rt, "a cause").tell("", &mut said);
     let wanted = b"nbt: 127.42.29.2:20190: send: Message too long (os error 90)\n";
     expect_eq(rt, &said.as_slice(), &wanted.as_slice());
-    Ok(())
 }
 
 fn expect_addresses<R: Abort, M: Net + Files + time::Clock>(
     rt: &R,
     port: &UdpPorts<'_, M>,
     wanted: &[Addr],
-) -> Result<(), Fail> {
-    expect_eq(rt, &port.addresses()?.as_slice(), &wanted);
-    Ok(())
+) {
+    expect_eq(
+        rt,
+        &port.addresses().expect(rt, "addresses").as_slice(),
+        &wanted,
+    );
 }
 
 #[test]
-fn a_reply_leaves_from_the_address_that_was_asked(rt: HostRuntime) -> Result<(), Fail> {
-    let bind = Bind::To(vec![in rt.alloc(); at(1), at(2), at(3)]?);
+fn a_reply_leaves_from_the_address_that_was_asked(rt: HostRuntime) {
+    let bind = Bind::To(vec![in rt.alloc(); at(1), at(2), at(3)].expect(&rt, "memory"));
     let mut errors = Vec::new(rt.alloc());
-    let mut first = UdpPort::bind(&rt, host(1))?;
-    let mut second = UdpPort::bind(&rt, host(2))?;
-    let mut port = UdpPorts::bind(&rt, rt.alloc(), &bind, &mut errors)?;
-    expect_addresses(&rt, &port, &[at(1), at(2), at(3)])?;
-    play(&rt, &mut port, &mut first, &mut second, &ACTS)?;
-    expect_fair(&rt, &mut port, &mut first, &mut second)?;
-    let long = Vec::from_elem(rt.alloc(), 0, 65_508)?;
-    expect_failures(&rt, &mut port, &mut first, long.as_slice())?;
+    let mut first = UdpPort::bind(&rt, host(1)).expect(&rt, "bound");
+    let mut second = UdpPort::bind(&rt, host(2)).expect(&rt, "bound");
+    let mut port = UdpPorts::bind(&rt, rt.alloc(), &bind, &mut errors).expect(&rt, "bound");
+    expect_addresses(&rt, &port, &[at(1), at(2), at(3)]);
+    play(&rt, &mut port, &mut first, &mut second, &ACTS);
+    expect_fair(&rt, &mut port, &mut first, &mut second);
+    let long = Vec::from_elem(rt.alloc(), 0, 65_508).expect(&rt, "memory");
+    expect_failures(&rt, &mut port, &mut first, long.as_slice());
     expect(&rt, errors.is_empty());
-    Ok(())
 }
 
 /// How binding to these addresses ends, and what is said.
-fn refused(rt: &HostRuntime, bind: &Bind) -> Result<(Option<Fault>, Vec<u8>), Fail> {
+fn refused<R: AllocGlobal + Net + time::Clock + Files>(
+    rt: &R,
+    bind: &Bind,
+) -> (Option<Fault>, Vec<u8>) {
     let mut errors = Vec::new(rt.alloc());
     let ended = UdpPorts::bind(rt, rt.alloc(), bind, &mut errors).err();
-    Ok((ended, errors))
+    (ended, errors)
 }
 
 #[test]
-fn an_address_that_can_not_be_had(rt: HostRuntime) -> Result<(), Fail> {
+fn an_address_that_can_not_be_had(rt: HostRuntime) {
     let taken = Addr {
         port: 20_192,
         ..at(2)
@@ -382,15 +402,17 @@ fn an_address_that_can_not_be_had(rt: HostRuntime) -> Result<(), Fail> {
         port: 20_192,
         ..at(1)
     };
-    let _taken = UdpPort::bind(&rt, taken)?;
-    let (ended, said) = refused(&rt, &Bind::To(vec![in rt.alloc(); free, taken]?))?;
+    let _taken = UdpPort::bind(&rt, taken).expect(&rt, "bound");
+    let (ended, said) = refused(
+        &rt,
+        &Bind::To(vec![in rt.alloc(); free, taken].expect(&rt, "memory")),
+    );
     expect_eq(&rt, &ended, &Some(Fault::NoPort));
     let wanted = b"nbt: 127.42.29.2:20192: Address already in use (os error 98)\n";
     expect_eq(&rt, &said.as_slice(), &wanted.as_slice());
     // Where one of all is taken, the others are served.
-    let (ended, _) = refused(&rt, &Bind::Every(20_192))?;
+    let (ended, _) = refused(&rt, &Bind::Every(20_192));
     expect_eq(&rt, &ended, &None);
-    Ok(())
 }
 
 /// A host that no other test has.
@@ -413,8 +435,8 @@ fn expect_served<R: Abort, M: Net + Files + time::Clock>(
     rt: &R,
     port: &mut UdpPorts<'_, M>,
     other: &mut UdpPort,
-) -> Result<(), Fail> {
-    let served = port.addresses()?;
+) {
+    let served = port.addresses().expect(rt, "addresses");
     expect(rt, served.as_slice().contains(&loopback(20_193)));
     // Each by a socket of its own, and none twice.
     for addr in served.as_slice() {
@@ -427,27 +449,29 @@ fn expect_served<R: Abort, M: Net + Files + time::Clock>(
         );
     }
     let mut octets = ArrayVec::new();
-    send(rt, other, loopback(20_193), b"hello")?;
-    expect_eq(rt, &receive(rt, port, true, &mut octets)?, &Some(sender()));
-    send(rt, port, sender(), b"reply")?;
+    send(rt, other, loopback(20_193), b"hello").expect(rt, "sent");
     expect_eq(
         rt,
-        &receive(rt, other, true, &mut octets)?,
+        &receive(rt, port, true, &mut octets).expect(rt, "received"),
+        &Some(sender()),
+    );
+    send(rt, port, sender(), b"reply").expect(rt, "sent");
+    expect_eq(
+        rt,
+        &receive(rt, other, true, &mut octets).expect(rt, "received"),
         &Some(loopback(20_193)),
     );
-    Ok(())
 }
 
 #[test]
-fn every_address_of_this_machine(rt: HostRuntime) -> Result<(), Fail> {
+fn every_address_of_this_machine(rt: HostRuntime) {
     let bind = Bind::Every(20_193);
     let mut errors = Vec::new(rt.alloc());
-    let mut first = UdpPort::bind(&rt, sender())?;
-    let mut port = UdpPorts::bind(&rt, rt.alloc(), &bind, &mut errors)?;
-    expect_served(&rt, &mut port, &mut first)?;
+    let mut first = UdpPort::bind(&rt, sender()).expect(&rt, "bound");
+    let mut port = UdpPorts::bind(&rt, rt.alloc(), &bind, &mut errors).expect(&rt, "bound");
+    expect_served(&rt, &mut port, &mut first);
     expect(&rt, errors.is_empty());
     // What comes and goes is told once; here nothing does.
     port.tell_changes(&mut errors);
     expect(&rt, errors.is_empty());
-    Ok(())
 }

@@ -13,10 +13,9 @@ use nbt_name::{Addr, Kind, Name};
 use nbt_node::Node;
 use nbt_port::{Clock, Datagram, MemoryClock, MemoryPort, Port};
 use nbt_server::Server;
-use nbt_testing::{Row, clock as clock_of, config, expect_sent, moment, port as port_of};
+use nbt_testing::{Row, clock as clock_of, config, port as port_of, sent_all};
 use std::collections::VecDeque;
 use std::process::Abort;
-use std::test::Fail;
 use std::time;
 
 const SERVER: Addr = Addr {
@@ -37,28 +36,33 @@ const STRANGER: Addr = Addr {
 /// Nothing comes.
 const NOTHING: Row = (SERVER, "-");
 
-fn node() -> Result<Node<3>, Fail> {
-    Ok(Node::start(HOST, SERVER, config(4096)?, Moment::zero()))
+fn node(rt: &impl Abort) -> Node<3> {
+    Node::start(
+        HOST,
+        SERVER,
+        config(4096).expect(rt, "limits"),
+        Moment::zero(),
+    )
 }
 
-fn goal(octets: &[u8; 16], kind: Kind) -> Result<Goal, Fail> {
-    Ok(Goal::new(Want {
-        name: Name::new(octets, b"")?,
+fn goal(rt: &impl Abort, octets: &[u8; 16], kind: Kind) -> Goal {
+    Goal::new(Want {
+        name: Name::new(octets, b"").expect(rt, "a name"),
         kind,
         ttl: 60,
-    }))
+    })
 }
 
-fn fred() -> Result<Goal, Fail> {
-    goal(b"FRED            ", Kind::Unique)
+fn fred(rt: &impl Abort) -> Goal {
+    goal(rt, b"FRED            ", Kind::Unique)
 }
 
-fn team() -> Result<Goal, Fail> {
-    goal(b"TEAM            ", Kind::Group)
+fn team(rt: &impl Abort) -> Goal {
+    goal(rt, b"TEAM            ", Kind::Group)
 }
 
-fn node_b() -> Result<Goal, Fail> {
-    goal(b"NODEB           ", Kind::Unique)
+fn node_b(rt: &impl Abort) -> Goal {
+    goal(rt, b"NODEB           ", Kind::Unique)
 }
 
 /// A machine that never sleeps, with one clock.
@@ -93,12 +97,12 @@ impl Watch for Awake<'_> {
 }
 
 /// A look at this moment, at which the machine had not slept.
-fn look_at(at: u64) -> Result<Look, Fail> {
-    Ok(Look {
-        at: moment(at)?,
-        day: moment(at)?,
+fn look_at(rt: &impl Abort, at: u64) -> Look {
+    Look {
+        at: Moment::new(at).expect(rt, "a moment"),
+        day: Moment::new(at).expect(rt, "a moment"),
         slept: false,
-    })
+    }
 }
 
 /// `host_turn` at a port of which few calls have failed.
@@ -108,20 +112,20 @@ fn turn<R: Abort>(
     clock: &mut MemoryClock,
     node: &mut Node<3>,
     goals: &mut [Goal],
-) -> Result<(), Fail> {
+) {
     expect(rt, port.failures() < 1 << 62);
     let mut watch = Awake { clock };
-    let mut last = look_at(0)?;
+    let mut last = look_at(rt, 0);
     host_turn(
         port,
         &mut watch,
         node,
         SERVER,
-        config(4096)?,
+        config(4096).expect(rt, "limits"),
         goals,
         &mut last,
-    )?;
-    Ok(())
+    )
+    .expect(rt, "a turn");
 }
 
 /// A turn: its two moments, what comes, and what is told of FRED: whether its hold has lapsed, and what came of it.
@@ -140,34 +144,34 @@ fn play_turns<R: Abort + AllocGlobal>(
     node: &mut Node<3>,
     goals: &mut [Goal],
     turns: &Turns,
-) -> Result<(), Fail> {
+) {
     for (first, _, _, lapsed, news) in turns.turns {
-        turn(rt, port, clock, node, goals)?;
+        turn(rt, port, clock, node, goals);
         for goal in goals.iter() {
             expect_eq_in(rt, &first, &goal.lapsed, &*lapsed);
             expect_eq_in(rt, &first, &goal.news, &*news);
         }
     }
-    expect_sent(rt, port, turns.sent)
+    sent_all(rt, port, turns.sent).expect(rt, "sent")
 }
 
 /// What comes in the turns.
-fn given_in<R: AllocGlobal>(rt: &R, turns: &[Told]) -> Result<Vec<Row>, Fail> {
+fn given_in<R: Abort + AllocGlobal>(rt: &R, turns: &[Told]) -> Vec<Row> {
     let mut given = Vec::new(rt.alloc());
     for (_, _, row, _, _) in turns {
-        given.push(*row)?;
+        given.push(*row).expect(rt, "memory");
     }
-    Ok(given)
+    given
 }
 
 /// The moments that the clock tells in the turns.
-fn moments_in<R: AllocGlobal>(rt: &R, turns: &[Told]) -> Result<Vec<u64>, Fail> {
+fn moments_in<R: Abort + AllocGlobal>(rt: &R, turns: &[Told]) -> Vec<u64> {
     let mut moments = Vec::new(rt.alloc());
     for (first, second, _, _, _) in turns {
-        moments.push(*first)?;
-        moments.push(*second)?;
+        moments.push(*first).expect(rt, "memory");
+        moments.push(*second).expect(rt, "memory");
     }
-    Ok(moments)
+    moments
 }
 
 const ASK: Row = (
@@ -420,22 +424,25 @@ const ROWS: &[Turns] = &[
 ];
 
 /// The server's replies at 60,000 to what a host sent, as what its port is to hand out.
-fn replies<R: Abort + AllocGlobal>(
-    rt: &R,
-    server: &mut Server,
-    sent: &[Datagram],
-) -> Result<MemoryPort, Fail> {
+fn replies<R: Abort + AllocGlobal>(rt: &R, server: &mut Server, sent: &[Datagram]) -> MemoryPort {
     let mut incoming = VecDeque::new(rt.alloc());
     for datagram in sent {
         let mut out = ArrayVec::new();
-        server.on_datagram(moment(60_000)?, HOST, datagram.octets.as_slice(), &mut out)?;
+        server
+            .on_datagram(
+                Moment::new(60_000).expect(rt, "a moment"),
+                HOST,
+                datagram.octets.as_slice(),
+                &mut out,
+            )
+            .expect(rt, "a reply");
         let reply = Datagram {
             addr: SERVER,
-            octets: Vec::from_slice(rt.alloc(), out.as_slice())?,
+            octets: Vec::from_slice(rt.alloc(), out.as_slice()).expect(rt, "memory"),
         };
-        incoming.push_back(Some(reply))?;
+        incoming.push_back(Some(reply)).expect(rt, "memory");
     }
-    Ok(MemoryPort::new(rt.alloc(), incoming))
+    MemoryPort::new(rt.alloc(), incoming)
 }
 
 /// Each turn tells of one name alone, in the list's order.
@@ -445,16 +452,15 @@ fn three_are_granted<R: Abort>(
     clock: &mut MemoryClock,
     node: &mut Node<3>,
     goals: &mut [Goal],
-) -> Result<(), Fail> {
+) {
     for granted in 0..3 {
-        turn(rt, port, clock, node, goals)?;
+        turn(rt, port, clock, node, goals);
         for (place, goal) in goals.iter().enumerate() {
             let news = if place == granted { IS_GRANTED } else { None };
             expect_eq_in(rt, &place, &goal.news, &news);
             expect_eq_in(rt, &place, &goal.held, &(place <= granted));
         }
     }
-    Ok(())
 }
 
 /// Two names and a group of a real server, all asked for in the first turn.
@@ -478,12 +484,12 @@ fn play_grants<R: Abort + AllocGlobal>(
     server: &mut Server,
     node: &mut Node<3>,
     goals: &mut [Goal],
-) -> Result<(), Fail> {
-    turn(rt, port, clock, node, goals)?;
-    expect_sent(rt, port, &ASKS)?;
-    *port = replies(rt, server, port.sent())?;
-    three_are_granted(rt, port, clock, node, goals)?;
-    expect_sent(rt, port, &[])
+) {
+    turn(rt, port, clock, node, goals);
+    sent_all(rt, port, &ASKS).expect(rt, "sent");
+    *port = replies(rt, server, port.sent());
+    three_are_granted(rt, port, clock, node, goals);
+    sent_all(rt, port, &[]).expect(rt, "sent")
 }
 
 /// What comes to a host that holds FRED and the group TEAM and gives them back at 4,000, at which moments its clock is read from
@@ -566,31 +572,32 @@ fn play_ending<R: Abort + AllocGlobal>(
     node: &mut Node<3>,
     goals: &mut [Goal],
     ending: &Ending,
-) -> Result<(), Fail> {
-    turn(rt, port, clock, node, goals)?;
-    turn(rt, port, clock, node, goals)?;
-    *port = port_of(rt, ending.given)?;
-    *clock = clock_of(rt, ending.moments)?;
+) {
+    turn(rt, port, clock, node, goals);
+    turn(rt, port, clock, node, goals);
+    *port = port_of(rt, ending.given).expect(rt, "a port");
+    *clock = clock_of(rt, ending.moments).expect(rt, "a clock");
     expect(rt, port.failures() < 1 << 62);
     let mut watch = Awake { clock };
-    let mut last = look_at(0)?;
-    let config = config(4096)?;
+    let mut last = look_at(rt, 0);
+    let config = config(4096).expect(rt, "limits");
     give_back(
         port, &mut watch, node, SERVER, config, goals, &mut last, 1_000,
-    )?;
+    )
+    .expect(rt, "give back");
     for (goal, stage) in goals.iter().zip(ending.stages) {
         expect_eq(rt, &goal.stage, &*stage);
     }
-    expect_sent(rt, port, ending.sent)
+    sent_all(rt, port, ending.sent).expect(rt, "sent")
 }
 
 /// A steady clock before the time of day and after it.
-fn reading(before: u64, day: u64, after: u64) -> Result<Reading, Fail> {
-    Ok(Reading {
-        before: moment(before)?,
-        day: moment(day)?,
-        after: moment(after)?,
-    })
+fn reading(rt: &impl Abort, before: u64, day: u64, after: u64) -> Reading {
+    Reading {
+        before: Moment::new(before).expect(rt, "a moment"),
+        day: Moment::new(day).expect(rt, "a moment"),
+        after: Moment::new(after).expect(rt, "a moment"),
+    }
 }
 
 /// Readings after (1,000, 500,000, 1,010), and whether the machine slept: the steady clock went from 1,000 to the last number, and of
@@ -610,28 +617,26 @@ const READINGS: [(u64, u64, u64, bool); 10] = [
 ];
 
 /// Whether the machine slept between (1,000, 500,000, 1,010) and this reading.
-fn slept_until(before: u64, day: u64, after: u64) -> Result<bool, Fail> {
-    let earlier = reading(1_000, 500_000, 1_010)?;
-    Ok(reading(before, day, after)?.slept_since(earlier))
+fn slept_until(rt: &impl Abort, before: u64, day: u64, after: u64) -> bool {
+    let earlier = reading(rt, 1_000, 500_000, 1_010);
+    reading(rt, before, day, after).slept_since(earlier)
 }
 
 #[test]
-fn a_sleep_is_seen_from_201_ms_and_a_thousandth_on(rt: HostRuntime) -> Result<(), Fail> {
+fn a_sleep_is_seen_from_201_ms_and_a_thousandth_on(rt: HostRuntime) {
     for (before, day, after, slept) in &READINGS {
-        expect_eq_in(&rt, &day, &slept_until(*before, *day, *after)?, &*slept);
+        expect_eq_in(&rt, &day, &slept_until(&rt, *before, *day, *after), &*slept);
     }
-    Ok(())
 }
 
 /// The readings of many years ahead, at which no product may be too large.
 #[test]
-fn a_sleep_is_seen_at_the_last_moments(rt: HostRuntime) -> Result<(), Fail> {
+fn a_sleep_is_seen_at_the_last_moments(rt: HostRuntime) {
     let end = 1 << 60;
-    let earlier = reading(end - 100, end - 301, end - 100)?;
-    expect(&rt, reading(end, end, end)?.slept_since(earlier));
-    let earlier = reading(end - 100, end - 300, end - 100)?;
-    expect(&rt, !reading(end, end, end)?.slept_since(earlier));
-    Ok(())
+    let earlier = reading(&rt, end - 100, end - 301, end - 100);
+    expect(&rt, reading(&rt, end, end, end).slept_since(earlier));
+    let earlier = reading(&rt, end - 100, end - 300, end - 100);
+    expect(&rt, !reading(&rt, end, end, end).slept_since(earlier));
 }
 
 /// What both clocks tell at a start, and the first id. Of starts that are up to a minute apart no two have one.
@@ -646,21 +651,20 @@ const FIRST_IDS: [(u64, u64, u16); 7] = [
 ];
 
 /// The first id of a host that starts at this look.
-fn first_id(at: u64, day: u64) -> Result<u16, Fail> {
+fn first_id(rt: &impl Abort, at: u64, day: u64) -> u16 {
     let look = Look {
-        at: moment(at)?,
-        day: moment(day)?,
+        at: Moment::new(at).expect(rt, "a moment"),
+        day: Moment::new(day).expect(rt, "a moment"),
         slept: false,
     };
-    Ok(look.first_id())
+    look.first_id()
 }
 
 #[test]
-fn ids_begin_at_the_last_bits_of_both_clocks(rt: HostRuntime) -> Result<(), Fail> {
+fn ids_begin_at_the_last_bits_of_both_clocks(rt: HostRuntime) {
     for (at, day, wanted) in &FIRST_IDS {
-        expect_eq_in(&rt, &day, &first_id(*at, *day)?, &*wanted);
+        expect_eq_in(&rt, &day, &first_id(&rt, *at, *day), &*wanted);
     }
-    Ok(())
 }
 
 /// A turn on a machine that may sleep: what the steady clock tells in it, what the time of day is at its two looks, what comes, and
@@ -671,7 +675,7 @@ type Waking = ([u64; 4], [u64; 2], Row, bool);
 /// next turn it goes one more, so the host starts at 3,070, when it was 1,003,276, answers no query, and asks anew more than 2,004 ms
 /// later, with the last 16 bits of both times together as its id. The grant to its first life comes once more, and a query, which isn't
 /// answered. A grant comes, and then a query, after a wait in which the machine slept for 201 ms: it isn't answered.
-const WAKING: [Waking; 11] = [
+const WAKING: &[Waking] = &[
     (
         [2_990, 3_000, 3_000, 3_010],
         [1_002_995, 1_003_005],
@@ -714,10 +718,19 @@ fn waking<R: Abort>(
     node: &mut Node<3>,
     goals: &mut [Goal],
     last: &mut Look,
-) -> Result<bool, Fail> {
+) -> bool {
     expect(rt, port.failures() < 1 << 62);
-    host_turn(port, watch, node, SERVER, config(4096)?, goals, last)?;
-    Ok(last.slept)
+    host_turn(
+        port,
+        watch,
+        node,
+        SERVER,
+        config(4096).expect(rt, "limits"),
+        goals,
+        last,
+    )
+    .expect(rt, "a turn");
+    last.slept
 }
 
 fn play_waking<R: Abort + AllocGlobal>(
@@ -726,49 +739,63 @@ fn play_waking<R: Abort + AllocGlobal>(
     watch: &mut WatchedClocks<MemoryClock, MemoryClock>,
     node: &mut Node<3>,
     goals: &mut [Goal],
-) -> Result<(), Fail> {
-    let mut last = look_at(0)?;
-    for (moments, days, _, slept) in &WAKING {
-        let woke = waking(rt, port, watch, node, goals, &mut last)?;
+    rows: &[Waking],
+) {
+    let mut last = look_at(rt, 0);
+    for (moments, days, _, slept) in rows {
+        let woke = waking(rt, port, watch, node, goals, &mut last);
         expect_eq_in(rt, &days, &woke, &*slept);
-        expect_eq_in(rt, &days, &last.at, &moment(moments[3])?);
-        expect_eq_in(rt, &days, &last.day, &moment(days[1])?);
+        expect_eq_in(
+            rt,
+            &days,
+            &last.at,
+            &Moment::new(moments[3]).expect(rt, "a moment"),
+        );
+        expect_eq_in(
+            rt,
+            &days,
+            &last.day,
+            &Moment::new(days[1]).expect(rt, "a moment"),
+        );
         for goal in goals.iter() {
             expect_in(rt, &days, !goal.lapsed);
         }
     }
-    expect_sent(rt, port, &[ASK, ANSWER, ASK_ANEW])
+    sent_all(rt, port, &[ASK, ANSWER, ASK_ANEW]).expect(rt, "sent")
 }
 
 /// What comes in those turns, what the steady clock tells in them, and the times of day.
-fn waking_given<R: AllocGlobal>(rt: &R) -> Result<Vec<Row>, Fail> {
+fn waking_given<R: Abort + AllocGlobal>(rt: &R, rows: &[Waking]) -> Vec<Row> {
     let mut given = Vec::new(rt.alloc());
-    for (_, _, row, _) in &WAKING {
-        given.push(*row)?;
+    for (_, _, row, _) in rows {
+        given.push(*row).expect(rt, "memory");
     }
-    Ok(given)
+    given
 }
 
-fn waking_steady<R: AllocGlobal>(rt: &R) -> Result<Vec<u64>, Fail> {
+fn waking_steady<R: Abort + AllocGlobal>(rt: &R, rows: &[Waking]) -> Vec<u64> {
     let mut steady = Vec::new(rt.alloc());
-    for (moments, _, _, _) in &WAKING {
-        steady.extend_from_slice(moments)?;
+    for (moments, _, _, _) in rows {
+        steady.extend_from_slice(moments).expect(rt, "memory");
     }
-    Ok(steady)
+    steady
 }
 
-fn waking_days<R: AllocGlobal>(rt: &R) -> Result<Vec<u64>, Fail> {
+fn waking_days<R: Abort + AllocGlobal>(rt: &R, rows: &[Waking]) -> Vec<u64> {
     let mut all = Vec::new(rt.alloc());
-    for (_, days, _, _) in &WAKING {
-        all.extend_from_slice(days)?;
+    for (_, days, _, _) in rows {
+        all.extend_from_slice(days).expect(rt, "memory");
     }
-    Ok(all)
+    all
 }
 
-fn waking_clocks<R: AllocGlobal>(rt: &R) -> Result<WatchedClocks<MemoryClock, MemoryClock>, Fail> {
-    let steady = clock_of(rt, waking_steady(rt)?.as_slice())?;
-    let day = clock_of(rt, waking_days(rt)?.as_slice())?;
-    Ok(WatchedClocks::new(Clocks { steady, day }))
+fn waking_clocks<R: Abort + AllocGlobal>(
+    rt: &R,
+    rows: &[Waking],
+) -> WatchedClocks<MemoryClock, MemoryClock> {
+    let steady = clock_of(rt, waking_steady(rt, rows).as_slice()).expect(rt, "a clock");
+    let day = clock_of(rt, waking_days(rt, rows).as_slice()).expect(rt, "a clock");
+    WatchedClocks::new(Clocks { steady, day })
 }
 
 /// What is played with a host that may want FRED, TEAM and NODEB.
@@ -781,7 +808,7 @@ enum Plays {
     /// FRED and TEAM are granted and given back.
     Ending(&'static Ending),
     /// Turns on a machine that may sleep, in which it wants FRED.
-    Waking,
+    Waking(&'static [Waking]),
 }
 
 impl Scene for Plays {
@@ -791,9 +818,9 @@ impl Scene for Plays {
         port: &mut MemoryPort,
         clock: &mut MemoryClock,
         server: &mut Server,
-    ) -> Result<(), Fail> {
-        let mut goals = [fred()?, team()?, node_b()?];
-        let mut node = node()?;
+    ) {
+        let mut goals = [fred(rt), team(rt), node_b(rt)];
+        let mut node = node(rt);
         match self {
             Plays::Turns(turns) => {
                 play_turns(rt, port, clock, &mut node, &mut goals[..1], *turns)
@@ -802,59 +829,50 @@ impl Scene for Plays {
             Plays::Ending(ending) => {
                 play_ending(rt, port, clock, &mut node, &mut goals, *ending)
             }
-            Plays::Waking => {
-                play_waking(
-                    rt,
-                    port,
-                    &mut waking_clocks(rt)?,
-                    &mut node,
-                    &mut goals[..1],
-                )
+            Plays::Waking(rows) => {
+                let mut watch = waking_clocks(rt, *rows);
+                play_waking(rt, port, &mut watch, &mut node, &mut goals[..1], *rows)
             }
         }
     }
 }
 
-fn play_each<R: Abort + AllocGlobal + time::Clock>(
-    rt: &R,
-    rows: &'static [Turns],
-) -> Result<(), Fail> {
+fn play_each<R: Abort + AllocGlobal + time::Clock>(rt: &R, rows: &'static [Turns]) {
     for turns in rows {
-        let given = given_in(rt, turns.turns)?;
-        let moments = moments_in(rt, turns.turns)?;
+        let given = given_in(rt, turns.turns);
+        let moments = moments_in(rt, turns.turns);
         let plays = Plays::Turns(turns);
-        play_on(rt, given.as_slice(), moments.as_slice(), &plays)?;
+        play_on(rt, given.as_slice(), moments.as_slice(), &plays);
     }
-    Ok(())
 }
 
 #[test]
-fn what_a_host_tells_and_sends(rt: HostRuntime) -> Result<(), Fail> {
+fn what_a_host_tells_and_sends(rt: HostRuntime) {
     play_each(&rt, ROWS)
 }
 
 #[test]
-fn a_server_grants_all_of_a_list(rt: HostRuntime) -> Result<(), Fail> {
+fn a_server_grants_all_of_a_list(rt: HostRuntime) {
     play_on(&rt, &[], &[60_000], &Plays::Grants)
 }
 
-fn play_endings<R: Abort + AllocGlobal + time::Clock>(
-    rt: &R,
-    endings: &'static [Ending],
-) -> Result<(), Fail> {
+fn play_endings<R: Abort + AllocGlobal + time::Clock>(rt: &R, endings: &'static [Ending]) {
     for ending in endings {
-        play_on(rt, &BOTH_ASKED, &[4_000], &Plays::Ending(ending))?;
+        play_on(rt, &BOTH_ASKED, &[4_000], &Plays::Ending(ending));
     }
-    Ok(())
 }
 
 #[test]
-fn names_are_given_back_and_which_were_confirmed_is_said(rt: HostRuntime) -> Result<(), Fail> {
+fn names_are_given_back_and_which_were_confirmed_is_said(rt: HostRuntime) {
     play_endings(&rt, ENDINGS)
 }
 
+fn play_slept<R: Abort + AllocGlobal + time::Clock>(rt: &R, rows: &'static [Waking]) {
+    let given = waking_given(rt, rows);
+    play_on(rt, given.as_slice(), &[], &Plays::Waking(rows))
+}
+
 #[test]
-fn a_host_that_slept_rests_and_asks_anew(rt: HostRuntime) -> Result<(), Fail> {
-    let given = waking_given(&rt)?;
-    play_on(&rt, given.as_slice(), &[], &Plays::Waking)
+fn a_host_that_slept_rests_and_asks_anew(rt: HostRuntime) {
+    play_slept(&rt, WAKING)
 }

@@ -8,13 +8,13 @@ use nbt_host::{
     Clocks, Event, Goal, HostArguments, News, Refusal, Stage, WatchedClocks, host_over, run_host,
     write_begin, write_endings, write_event, write_turn,
 };
-use nbt_lease::Config;
+use nbt_lease::{Config, Moment};
 use nbt_name::{Addr, Kind, Name};
 use nbt_port::{Fault, MemoryClock, MemoryPort, Port, UdpPort};
 use nbt_server::Server;
-use nbt_testing::{Row, clock, config, expect_sent, moment};
+use nbt_testing::{Row, clock, config, sent_all};
+use std::net::Net;
 use std::process::Abort;
-use std::test::Fail;
 use std::time;
 
 const SERVER: Addr = Addr {
@@ -55,82 +55,86 @@ struct Hosted {
     sent: &'static [Row],
 }
 
-fn want(octets: &[u8; 16], kind: Kind) -> Result<Want, Fail> {
-    Ok(Want {
-        name: Name::new(octets, b"")?,
+fn want(rt: &impl Abort, octets: &[u8; 16], kind: Kind) -> Want {
+    Want {
+        name: Name::new(octets, b"").expect(rt, "a name"),
         kind,
         ttl: 0,
-    })
+    }
 }
 
-fn arguments<R: AllocGlobal>(
+fn arguments<R: Abort + AllocGlobal>(
     rt: &R,
     wants: &[(&'static [u8; 16], Kind)],
     time: u64,
     log: bool,
-) -> Result<HostArguments, Fail> {
+) -> HostArguments {
     let mut wanted = Vec::new(rt.alloc());
     for (octets, kind) in wants {
-        wanted.push(want(octets, *kind)?)?;
+        wanted.push(want(rt, octets, *kind)).expect(rt, "memory");
     }
-    Ok(HostArguments {
+    HostArguments {
         bind: HOST,
         server: SERVER,
-        config: config(4096)?,
+        config: config(4096).expect(rt, "limits"),
         wants: wanted,
         time: Some(time),
         log,
-    })
+    }
 }
 
 /// What the steady clock tells: it is read at first, at 0, at each of a turn's two looks before the time of day and after it, and after
 /// the turn.
-fn steady_in<R: AllocGlobal>(rt: &R, turns: &[Turn], end: &[u64]) -> Result<Vec<u64>, Fail> {
+fn steady_in<R: Abort + AllocGlobal>(rt: &R, turns: &[Turn], end: &[u64]) -> Vec<u64> {
     let mut steady = Vec::new(rt.alloc());
-    steady.extend_from_slice(&[0, 0])?;
+    steady.extend_from_slice(&[0, 0]).expect(rt, "memory");
     for (first, second, _, _) in turns {
-        steady.extend_from_slice(&[*first, *first, *second, *second, *second])?;
+        steady
+            .extend_from_slice(&[*first, *first, *second, *second, *second])
+            .expect(rt, "memory");
     }
-    steady.extend_from_slice(end)?;
-    Ok(steady)
+    steady.extend_from_slice(end).expect(rt, "memory");
+    steady
 }
 
 /// The times of day: it is read at first, and at each of a turn's two looks, also while the names are given back. There the steady
 /// clock is read twice at first, and then five times a turn.
-fn days_in<R: AllocGlobal>(rt: &R, turns: &[Turn], end: &[u64]) -> Result<Vec<u64>, Fail> {
+fn days_in<R: Abort + AllocGlobal>(rt: &R, turns: &[Turn], end: &[u64]) -> Vec<u64> {
     let mut days = Vec::new(rt.alloc());
-    days.push(DAY)?;
+    days.push(DAY).expect(rt, "memory");
     for (first, second, set, _) in turns {
-        days.push(DAY.saturating_add(*first).saturating_add(*set))?;
-        days.push(DAY.saturating_add(*second).saturating_add(*set))?;
+        days.push(DAY.saturating_add(*first).saturating_add(*set))
+            .expect(rt, "memory");
+        days.push(DAY.saturating_add(*second).saturating_add(*set))
+            .expect(rt, "memory");
     }
     for (place, moment) in end.iter().enumerate() {
         if place >= 2 && matches!(place % 5, 2 | 4) {
-            days.push(DAY.saturating_add(*moment))?;
+            days.push(DAY.saturating_add(*moment)).expect(rt, "memory");
         }
     }
-    Ok(days)
+    days
 }
 
 /// The clocks of the machine.
-fn clocks<R: AllocGlobal>(
+fn clocks<R: Abort + AllocGlobal>(
     rt: &R,
     turns: &[Turn],
     end: &[u64],
-) -> Result<WatchedClocks<MemoryClock, MemoryClock>, Fail> {
-    let steady = clock(rt, steady_in(rt, turns, end)?.as_slice())?;
-    let day = clock(rt, days_in(rt, turns, end)?.as_slice())?;
-    Ok(WatchedClocks::new(Clocks { steady, day }))
+) -> WatchedClocks<MemoryClock, MemoryClock> {
+    let steady = clock(rt, steady_in(rt, turns, end).as_slice()).expect(rt, "a clock");
+    let day = clock(rt, days_in(rt, turns, end).as_slice()).expect(rt, "a clock");
+    WatchedClocks::new(Clocks { steady, day })
 }
 
 /// What comes in the turns, and while the names are given back.
-fn given_in<R: AllocGlobal>(rt: &R, turns: &[Turn], given: &[Row]) -> Result<Vec<Row>, Fail> {
+fn given_in<R: Abort + AllocGlobal>(rt: &R, turns: &[Turn], given: &[Row]) -> Vec<Row> {
     let mut rows = Vec::new(rt.alloc());
     for (_, _, _, came) in turns {
-        rows.push(*came)?;
+        rows.push(*came).expect(rt, "memory");
     }
-    rows.extend_from_slice(given)?;
-    Ok(rows)
+    rows.extend_from_slice(given).expect(rt, "memory");
+    rows
 }
 
 /// `host_over` at a port of which few calls have failed.
@@ -140,7 +144,7 @@ fn run<R: Abort + AllocGlobal + time::Clock>(
     clocks: WatchedClocks<MemoryClock, MemoryClock>,
     arguments: &HostArguments,
     row: &Hosted,
-) -> Result<(), Fail> {
+) {
     let mut printed = Vec::new(rt.alloc());
     let mut errors = Vec::new(rt.alloc());
     expect(rt, port.failures() < 1 << 61);
@@ -154,10 +158,18 @@ fn run<R: Abort + AllocGlobal + time::Clock>(
         &mut printed,
         &mut errors,
     );
-    expect_eq(rt, &str::from_utf8(printed.as_slice())?, &row.printed);
-    expect_eq(rt, &str::from_utf8(errors.as_slice())?, &row.errors);
+    expect_eq(
+        rt,
+        &str::from_utf8(printed.as_slice()).expect(rt, "a text"),
+        &row.printed,
+    );
+    expect_eq(
+        rt,
+        &str::from_utf8(errors.as_slice()).expect(rt, "a text"),
+        &row.errors,
+    );
     expect_eq_in(rt, &row.printed, &all, &row.all);
-    expect_sent(rt, port, row.sent)
+    sent_all(rt, port, row.sent).expect(rt, "sent")
 }
 
 impl Scene for Hosted {
@@ -167,18 +179,12 @@ impl Scene for Hosted {
         port: &mut MemoryPort,
         _: &mut MemoryClock,
         _: &mut Server,
-    ) -> Result<(), Fail> {
+    ) {
         if let Some(calls) = self.fails_after {
             port.fail_after(calls);
         }
-        let arguments = arguments(rt, self.wants, self.time, self.log)?;
-        run(
-            rt,
-            port,
-            clocks(rt, self.turns, self.end)?,
-            &arguments,
-            self,
-        )
+        let arguments = arguments(rt, self.wants, self.time, self.log);
+        run(rt, port, clocks(rt, self.turns, self.end), &arguments, self)
     }
 }
 
@@ -869,7 +875,7 @@ fn run_short<R: Abort + AllocGlobal + time::Clock>(
     arguments: &HostArguments,
     room: &mut [u8],
     printed: &str,
-) -> Result<(), Fail> {
+) {
     let mut short = &mut *room;
     let mut errors = Vec::new(rt.alloc());
     expect(rt, port.failures() < 1 << 61);
@@ -886,11 +892,10 @@ fn run_short<R: Abort + AllocGlobal + time::Clock>(
     expect_eq(rt, &ended, &Err(Fault::Output));
     expect_eq(
         rt,
-        &str::from_utf8(errors.as_slice())?,
+        &str::from_utf8(errors.as_slice()).expect(rt, "a text"),
         &"nbt: the output can't be written: failed to write whole buffer\n",
     );
     expect_eq(rt, &&*room, &printed.as_bytes());
-    Ok(())
 }
 
 impl Scene for Short {
@@ -900,48 +905,46 @@ impl Scene for Short {
         port: &mut MemoryPort,
         _: &mut MemoryClock,
         _: &mut Server,
-    ) -> Result<(), Fail> {
+    ) {
         let mut octets = [0; 60];
-        let room = octets.get_mut(..self.room).ok_or("no room")?;
-        let arguments = arguments(rt, &[FRED], 4_000, false)?;
-        let clocks = clocks(rt, UNCONFIRMED.turns, &[])?;
+        let room = octets.get_mut(..self.room).expect(rt, "room");
+        let arguments = arguments(rt, &[FRED], 4_000, false);
+        let clocks = clocks(rt, UNCONFIRMED.turns, &[]);
         run_short(rt, port, clocks, &arguments, room, self.printed)
     }
 }
 
-fn play_hosted<R: Abort + AllocGlobal + time::Clock>(rt: &R, rows: &[Hosted]) -> Result<(), Fail> {
+fn play_hosted<R: Abort + AllocGlobal + time::Clock>(rt: &R, rows: &[Hosted]) {
     for row in rows {
-        let given = given_in(rt, row.turns, row.given)?;
-        play_on(rt, given.as_slice(), &[], row)?;
+        let given = given_in(rt, row.turns, row.given);
+        play_on(rt, given.as_slice(), &[], row);
     }
-    Ok(())
 }
 
 #[test]
-fn hosts_and_their_lines(rt: HostRuntime) -> Result<(), Fail> {
+fn hosts_and_their_lines(rt: HostRuntime) {
     play_hosted(&rt, ROWS)
 }
 
 #[test]
-fn hosts_and_what_their_servers_leave_unsaid(rt: HostRuntime) -> Result<(), Fail> {
+fn hosts_and_what_their_servers_leave_unsaid(rt: HostRuntime) {
     play_hosted(&rt, SERVERS)
 }
 
-fn play_short<R: Abort + AllocGlobal + time::Clock>(rt: &R, rows: &[Short]) -> Result<(), Fail> {
+fn play_short<R: Abort + AllocGlobal + time::Clock>(rt: &R, rows: &[Short]) {
     for short in rows {
-        play_on(rt, &[GRANTED], &[], short)?;
+        play_on(rt, &[GRANTED], &[], short);
     }
-    Ok(())
 }
 
 #[test]
-fn a_line_that_can_not_be_written_ends_a_host(rt: HostRuntime) -> Result<(), Fail> {
+fn a_line_that_can_not_be_written_ends_a_host(rt: HostRuntime) {
     play_short(&rt, ROOMS)
 }
 
 /// A host of this machine at a port that no other test has, which ends after its first turn.
-fn arguments_here<R: AllocGlobal>(rt: &R, port: u16) -> Result<HostArguments, Fail> {
-    let mut arguments = arguments(rt, &[FRED], 0, false)?;
+fn arguments_here<R: Abort + AllocGlobal>(rt: &R, port: u16) -> HostArguments {
+    let mut arguments = arguments(rt, &[FRED], 0, false);
     arguments.bind = Addr {
         ip: 0x7F2A1704,
         port,
@@ -950,50 +953,51 @@ fn arguments_here<R: AllocGlobal>(rt: &R, port: u16) -> Result<HostArguments, Fa
         ip: 0x7F2A1704,
         port: 20_189,
     };
-    Ok(arguments)
+    arguments
 }
 
 /// Runs it. Returns how it ended, what it printed, and what it said of errors.
-fn run_here(rt: &HostRuntime, port: u16) -> Result<(Result<bool, Fault>, Vec<u8>, Vec<u8>), Fail> {
-    let arguments = arguments_here(rt, port)?;
+fn run_here<R: Abort + AllocGlobal + Net + time::Clock>(
+    rt: &R,
+    port: u16,
+) -> (Result<bool, Fault>, Vec<u8>, Vec<u8>) {
+    let arguments = arguments_here(rt, port);
     let mut printed = Vec::new(rt.alloc());
     let mut errors = Vec::new(rt.alloc());
     let all = run_host(rt, rt.alloc(), &arguments, &mut printed, &mut errors);
-    Ok((all, printed, errors))
+    (all, printed, errors)
 }
 
 /// The last line has a time of day, which no test can foresee.
-fn expect_not_held<R: Abort>(rt: &R, printed: &[u8]) -> Result<(), Fail> {
+fn expect_not_held<R: Abort>(rt: &R, printed: &[u8]) {
     let begin = b"host 127.42.23.4:20181 asks 127.42.23.4:20189 for 1 name\n".as_slice();
-    let rest = printed.strip_prefix(begin).ok_or("another line")?;
+    let rest = printed.strip_prefix(begin).expect(rt, "another line");
     expect(rt, rest.ends_with(b"Z not held FRED#20\n"));
     expect_eq(rt, &rest.len(), &38);
-    Ok(())
 }
 
 #[test]
-fn a_host_over_this_machine(rt: HostRuntime) -> Result<(), Fail> {
-    let (all, printed, errors) = run_here(&rt, 20_181)?;
+fn a_host_over_this_machine(rt: HostRuntime) {
+    let (all, printed, errors) = run_here(&rt, 20_181);
     expect_eq(&rt, &all, &Ok(false));
     expect(&rt, errors.is_empty());
     expect_not_held(&rt, printed.as_slice())
 }
 
 #[test]
-fn a_host_tells_the_port_that_it_got(rt: HostRuntime) -> Result<(), Fail> {
-    let (all, printed, _) = run_here(&rt, 0)?;
+fn a_host_tells_the_port_that_it_got(rt: HostRuntime) {
+    let (all, printed, _) = run_here(&rt, 0);
     expect_eq(&rt, &all, &Ok(false));
     expect(&rt, printed.as_slice().starts_with(b"host 127.42.23.4:"));
     expect(&rt, !printed.as_slice().starts_with(b"host 127.42.23.4:0 "));
-    Ok(())
 }
 
 /// There is no way to port 0. A datagram lives 1 ms, so that it asks at once.
 #[test]
-fn a_host_says_that_its_server_has_no_route(rt: HostRuntime) -> Result<(), Fail> {
-    let mut arguments = arguments_here(&rt, 20_183)?;
+fn a_host_says_that_its_server_has_no_route(rt: HostRuntime) {
+    let mut arguments = arguments_here(&rt, 20_183);
     arguments.server.port = 0;
-    arguments.config = Config::new(1, 60, 1)?;
+    arguments.config = Config::new(1, 60, 1).expect(&rt, "limits");
     arguments.time = Some(300);
     let mut printed = Vec::new(rt.alloc());
     let mut errors = Vec::new(rt.alloc());
@@ -1004,17 +1008,16 @@ fn a_host_says_that_its_server_has_no_route(rt: HostRuntime) -> Result<(), Fail>
         &errors.as_slice(),
         &b"nbt: 127.42.23.4:0: send: Invalid argument (os error 22); going on\n".as_slice(),
     );
-    Ok(())
 }
 
 #[test]
-fn a_host_whose_port_can_not_be_had(rt: HostRuntime) -> Result<(), Fail> {
+fn a_host_whose_port_can_not_be_had(rt: HostRuntime) {
     let taken = Addr {
         ip: 0x7F2A1704,
         port: 20_182,
     };
-    let _taken = UdpPort::bind(&rt, taken)?;
-    let (all, printed, errors) = run_here(&rt, 20_182)?;
+    let _taken = UdpPort::bind(&rt, taken).expect(&rt, "bound");
+    let (all, printed, errors) = run_here(&rt, 20_182);
     expect_eq(&rt, &all, &Err(Fault::NoPort));
     expect(&rt, printed.is_empty());
     expect_eq(
@@ -1022,7 +1025,6 @@ fn a_host_whose_port_can_not_be_had(rt: HostRuntime) -> Result<(), Fail> {
         &errors.as_slice(),
         &b"nbt: 127.42.23.4:20182: Address already in use (os error 98)\n".as_slice(),
     );
-    Ok(())
 }
 
 /// Each event, at the second at which it was 2026-11-24T09:12:03Z, of a name, and of one in a scope.
@@ -1068,52 +1070,49 @@ const EVENTS: [(Event, &str); 11] = [
 const SECOND: u64 = 1_795_511_523;
 
 #[test]
-fn lines_of_events(rt: HostRuntime) -> Result<(), Fail> {
-    let name = Name::new(b"FRED            ", b"")?;
+fn lines_of_events(rt: HostRuntime) {
+    let name = Name::new(b"FRED            ", b"").expect(&rt, "a name");
     for (event, expected) in EVENTS {
         let mut text = String::new(rt.alloc());
-        write_event(SECOND, event, &name, &mut text)?;
+        write_event(SECOND, event, &name, &mut text).expect(&rt, "write event");
         expect_eq(&rt, &text.as_str(), &expected);
     }
-    Ok(())
 }
 
-fn goal(stage: Stage, lapsed: bool, news: Option<News>, times: u8) -> Result<Goal, Fail> {
-    let mut goal = Goal::new(want(FRED.0, FRED.1)?);
+fn goal(rt: &impl Abort, stage: Stage, lapsed: bool, news: Option<News>, times: u8) -> Goal {
+    let mut goal = Goal::new(want(rt, FRED.0, FRED.1));
     goal.stage = stage;
     goal.lapsed = lapsed;
     goal.news = news;
     goal.refusal = Some(Refusal {
         rcode: 6,
         times,
-        at: moment(0)?,
+        at: Moment::new(0).expect(rt, "a moment"),
     });
-    Ok(goal)
+    goal
 }
 
 /// The first line, the lines of a turn on a machine that slept, and those of the end.
-fn write_lines(goals: &[Goal], text: &mut String) -> Result<(), Fail> {
-    write_begin(HOST, SERVER, 0, text)?;
-    write_turn(SECOND, false, SERVER, true, goals, text)?;
-    write_endings(SECOND, goals, text)?;
-    Ok(())
+fn write_lines(rt: &impl Abort, goals: &[Goal], text: &mut String) {
+    write_begin(HOST, SERVER, 0, text).expect(rt, "a first line");
+    write_turn(SECOND, false, SERVER, true, goals, text).expect(rt, "write turn");
+    write_endings(SECOND, goals, text).expect(rt, "write endings");
 }
 
 #[test]
-fn lines_of_a_turn_and_of_the_end(rt: HostRuntime) -> Result<(), Fail> {
+fn lines_of_a_turn_and_of_the_end(rt: HostRuntime) {
     let goals = [
-        goal(Stage::Left(0), true, Some(News::Refused(6)), 1)?,
-        goal(Stage::Left(1), false, Some(News::Refused(6)), 2)?,
-        goal(Stage::Released, true, Some(News::Freed(0)), 1)?,
-        goal(Stage::Wanted, false, None, 1)?,
-        goal(Stage::Wanted, false, Some(News::Doubted), 1)?,
+        goal(&rt, Stage::Left(0), true, Some(News::Refused(6)), 1),
+        goal(&rt, Stage::Left(1), false, Some(News::Refused(6)), 2),
+        goal(&rt, Stage::Released, true, Some(News::Freed(0)), 1),
+        goal(&rt, Stage::Wanted, false, None, 1),
+        goal(&rt, Stage::Wanted, false, Some(News::Doubted), 1),
     ];
     let mut text = String::new(rt.alloc());
-    write_lines(&goals, &mut text)?;
+    write_lines(&rt, &goals, &mut text);
     expect_eq(
         &rt,
         &text.as_str(),
         &"host 127.0.0.2:137 asks 127.0.0.1:137 for 0 names\n2026-11-24T09:12:03Z slept, or its clock was set: asks anew\n2026-11-24T09:12:03Z lapsed FRED#20\n2026-11-24T09:12:03Z refused FRED#20: held by another (6)\n2026-11-24T09:12:03Z asks again for FRED#20 after 5 s, 10 s .. at most 5 min\n2026-11-24T09:12:03Z refused FRED#20: held by another (6)\n2026-11-24T09:12:03Z lapsed FRED#20\n2026-11-24T09:12:03Z refreshes FRED#20: the server says that it isn't held\n2026-11-24T09:12:03Z given back FRED#20\n2026-11-24T09:12:03Z give-back denied FRED#20: malformed request (1)\n2026-11-24T09:12:03Z give-back unconfirmed FRED#20\n2026-11-24T09:12:03Z not held FRED#20\n2026-11-24T09:12:03Z not held FRED#20\n",
     );
-    Ok(())
 }

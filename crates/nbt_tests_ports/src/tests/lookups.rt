@@ -4,13 +4,13 @@ use super::expect::{expect, expect_eq, expect_eq_in};
 use super::stage::{Scene, play_on};
 use arrayvec::ArrayVec;
 use nbt_client::{Answer, Ending, Question, ask, ask_here, look_up, patience_of};
+use nbt_lease::Moment;
 use nbt_name::{Addr, Name};
 use nbt_node::{LookupFault, Node};
 use nbt_port::{Fault, MemoryClock, MemoryPort, Port};
 use nbt_server::Server;
-use nbt_testing::{Row, config, expect_sent, moment, octets};
+use nbt_testing::{Row, config, octets, sent_all};
 use std::process::Abort;
-use std::test::Fail;
 use std::time;
 
 const SERVER: Addr = Addr {
@@ -57,12 +57,15 @@ struct Lookup {
     sent: &'static [Row],
 }
 
-fn question(asks: &str) -> Result<Question, Fail> {
-    Ok(match asks {
-        "FRED" => Question::Holders(SERVER, Name::new(b"FRED            ", b"")?),
-        "*" => Question::Holders(SERVER, Name::any(b"")?),
-        _ => Question::Names(PEER, Name::any(b"")?),
-    })
+fn question(rt: &impl Abort, asks: &str) -> Question {
+    match asks {
+        "FRED" => Question::Holders(
+            SERVER,
+            Name::new(b"FRED            ", b"").expect(rt, "a name"),
+        ),
+        "*" => Question::Holders(SERVER, Name::any(b"").expect(rt, "a name")),
+        _ => Question::Names(PEER, Name::any(b"").expect(rt, "a name")),
+    }
 }
 
 /// Plays one lookup of a node that starts at 0. Where a reply ended it, the last datagram given is what is left in the
@@ -74,19 +77,23 @@ fn see_lookup<R: Abort + AllocGlobal>(
     node: &mut Node<1>,
     left: &mut ArrayVec<u8, 2048>,
     lookup: &Lookup,
-) -> Result<(), Fail> {
+) {
     expect(rt, port.failures() < 1 << 62);
     expect(rt, lookup.patience < 1 << 62);
-    let question = question(lookup.asks)?;
+    let question = question(rt, lookup.asks);
     let (patience, most) = (lookup.patience, lookup.most);
-    let ending = look_up(port, clock, node, &question, patience, most, left)?;
+    let ending = look_up(port, clock, node, &question, patience, most, left).expect(rt, "look up");
     expect_eq(rt, &ending, &lookup.ending);
-    expect_sent(rt, port, lookup.sent)?;
+    sent_all(rt, port, lookup.sent).expect(rt, "sent");
     if ending == Ending::Told {
-        let (_, words) = lookup.given.last().ok_or("nothing given")?;
-        expect_eq_in(rt, &words, &left.as_slice(), &octets(rt, words)?.as_slice());
+        let (_, words) = lookup.given.last().expect(rt, "something given");
+        expect_eq_in(
+            rt,
+            &words,
+            &left.as_slice(),
+            &octets(rt, words).expect(rt, "octets").as_slice(),
+        );
     }
-    Ok(())
 }
 
 impl Scene for Lookup {
@@ -96,8 +103,11 @@ impl Scene for Lookup {
         port: &mut MemoryPort,
         clock: &mut MemoryClock,
         _: &mut Server,
-    ) -> Result<(), Fail> {
-        let (limits, start) = (config(16)?, moment(0)?);
+    ) {
+        let (limits, start) = (
+            config(16).expect(rt, "limits"),
+            Moment::new(0).expect(rt, "a moment"),
+        );
         let mut node = Node::start(OWN, SERVER, limits, start);
         see_lookup(rt, port, clock, &mut node, &mut ArrayVec::new(), self)
     }
@@ -195,16 +205,15 @@ const UNTOLD: &[Lookup] = &[
     },
 ];
 
-fn play_lookups<R: Abort + AllocGlobal + time::Clock>(rt: &R, rows: &[Lookup]) -> Result<(), Fail> {
+fn play_lookups<R: Abort + AllocGlobal + time::Clock>(rt: &R, rows: &[Lookup]) {
     for lookup in rows {
-        play_on(rt, lookup.given, lookup.moments, lookup)?;
+        play_on(rt, lookup.given, lookup.moments, lookup);
     }
-    Ok(())
 }
 
 #[test]
-fn lookups(rt: HostRuntime) -> Result<(), Fail> {
-    play_lookups(&rt, TOLD)?;
+fn lookups(rt: HostRuntime) {
+    play_lookups(&rt, TOLD);
     play_lookups(&rt, UNTOLD)
 }
 
@@ -227,7 +236,7 @@ fn see_asked<R: Abort + AllocGlobal>(
     clock: &mut MemoryClock,
     text: &mut String,
     asked: &Asked,
-) -> Result<(), Fail> {
+) {
     let failures = match asked.fails_after {
         Some(calls) => {
             port.fail_after(calls);
@@ -236,12 +245,12 @@ fn see_asked<R: Abort + AllocGlobal>(
         None => 0,
     };
     expect(rt, port.failures() < 1 << 62);
-    let question = question(asked.asks)?;
+    let question = question(rt, asked.asks);
     let answer = ask(port, clock, OWN, &question, asked.patience, text);
     expect_eq(rt, &answer, &asked.answer);
     expect_eq(rt, &text.as_str().strip_prefix("> "), &Some(asked.text));
     expect_eq(rt, &port.failures(), &failures);
-    expect_sent(rt, port, asked.sent)
+    sent_all(rt, port, asked.sent).expect(rt, "sent")
 }
 
 impl Scene for Asked {
@@ -251,8 +260,8 @@ impl Scene for Asked {
         port: &mut MemoryPort,
         clock: &mut MemoryClock,
         _: &mut Server,
-    ) -> Result<(), Fail> {
-        let mut text = String::from_str(rt.alloc(), "> ")?;
+    ) {
+        let mut text = String::from_str(rt.alloc(), "> ").expect(rt, "memory");
         see_asked(rt, port, clock, &mut text, self)
     }
 }
@@ -386,32 +395,30 @@ const STATUSES: [(Answer, u8); 3] = [
     (Answer::NoReply, 5),
 ];
 
-fn play_asked<R: Abort + AllocGlobal + time::Clock>(rt: &R, rows: &[Asked]) -> Result<(), Fail> {
+fn play_asked<R: Abort + AllocGlobal + time::Clock>(rt: &R, rows: &[Asked]) {
     for asked in rows {
-        play_on(rt, asked.given, asked.moments, asked)?;
+        play_on(rt, asked.given, asked.moments, asked);
     }
-    Ok(())
 }
 
 #[test]
-fn questions_as_commands_ask_them(rt: HostRuntime) -> Result<(), Fail> {
-    play_asked(&rt, ASKED)?;
+fn questions_as_commands_ask_them(rt: HostRuntime) {
+    play_asked(&rt, ASKED);
     for (answer, status) in &STATUSES {
         expect_eq(&rt, &answer.status(), &*status);
     }
-    Ok(())
 }
 
 /// There is no way to port 0: the question ends at once, and it is said why.
 #[test]
-fn a_question_without_a_route_ends_at_once(rt: HostRuntime) -> Result<(), Fail> {
+fn a_question_without_a_route_ends_at_once(rt: HostRuntime) {
     let own = Addr {
         ip: 0x7F2A1705,
         port: 0,
     };
     let question = Question::Holders(
         Addr { port: 0, ..SERVER },
-        Name::new(b"FRED            ", b"")?,
+        Name::new(b"FRED            ", b"").expect(&rt, "a name"),
     );
     let mut text = String::new(rt.alloc());
     let mut errors = Vec::new(rt.alloc());
@@ -423,7 +430,6 @@ fn a_question_without_a_route_ends_at_once(rt: HostRuntime) -> Result<(), Fail> 
         &errors.as_slice(),
         &b"nbt: 127.0.0.1:0: send: Invalid argument (os error 22)\n".as_slice(),
     );
-    Ok(())
 }
 
 #[test]

@@ -2,13 +2,12 @@
 
 use super::expect::{expect, expect_eq, expect_eq_in};
 use arrayvec::ArrayVec;
+use nbt_lease::Moment;
 use nbt_name::Addr;
 use nbt_port::{Clock, Device, Fault, MachineClock, Port, SteadyClock, UdpPort, steady_clock};
-use nbt_testing::moment;
 use std::cell::Cell;
 use std::process::Abort;
 use std::rt::Net;
-use std::test::Fail;
 use std::time::Duration;
 use std::{io, time};
 
@@ -39,8 +38,11 @@ fn receive<R: Abort>(
 }
 
 /// For port 0 the machine chooses one.
-fn chosen<R: Net>(net: &R) -> Result<Addr, Fail> {
-    Ok(UdpPort::bind(net, Addr { port: 0, ..HERE })?.local()?)
+fn chosen<R: Net>(rt: &impl Abort, net: &R) -> Addr {
+    UdpPort::bind(net, Addr { port: 0, ..HERE })
+        .expect(rt, "bound")
+        .local()
+        .expect(rt, "local")
 }
 
 /// What is sent comes, as these octets alone.
@@ -51,23 +53,21 @@ fn expect_comes<R: Abort>(
     octets: &mut ArrayVec<u8, 2048>,
     sent: &[u8],
     taken: &[u8],
-) -> Result<(), Fail> {
-    send(rt, near, THERE, sent)?;
-    expect_eq(rt, &receive(rt, far, octets)?, &Some(HERE));
+) {
+    send(rt, near, THERE, sent).expect(rt, "sent");
+    expect_eq(
+        rt,
+        &receive(rt, far, octets).expect(rt, "received"),
+        &Some(HERE),
+    );
     expect_eq_in(rt, &sent.len(), &octets.as_slice(), &taken);
-    Ok(())
 }
 
 /// Nothing comes, and nothing stands in the buffer.
-fn expect_nothing<R: Abort>(
-    rt: &R,
-    far: &mut UdpPort,
-    octets: &mut ArrayVec<u8, 2048>,
-) -> Result<(), Fail> {
-    expect_eq(rt, &receive(rt, far, octets)?, &None);
+fn expect_nothing<R: Abort>(rt: &R, far: &mut UdpPort, octets: &mut ArrayVec<u8, 2048>) {
+    expect_eq(rt, &receive(rt, far, octets).expect(rt, "received"), &None);
     expect(rt, octets.is_empty());
     expect_eq(rt, &far.failures(), &0);
-    Ok(())
 }
 
 /// There is no way to port 0: what is sent there is lost, and the device is well. Where it is watched, the port knows why.
@@ -95,11 +95,10 @@ fn expect_alone<R: Abort>(
     near: &mut UdpPort,
     far: &mut UdpPort,
     octets: &mut ArrayVec<u8, 2048>,
-) -> Result<(), Fail> {
+) {
     for sent in [b"hello".as_slice(), b"the first", b"second", b"", b"3"] {
-        expect_comes(rt, near, far, octets, sent, sent)?;
+        expect_comes(rt, near, far, octets, sent, sent);
     }
-    Ok(())
 }
 
 /// The octets of a datagram, and how many of them are handed out.
@@ -114,12 +113,12 @@ const LENGTHS: [(usize, usize); 7] = [
 ];
 
 /// So many octets, each of which tells its place.
-fn counted<R: AllocGlobal>(rt: &R, count: usize) -> Result<Vec<u8>, Fail> {
+fn counted<R: Abort + AllocGlobal>(rt: &R, count: usize) -> Vec<u8> {
     let mut octets = Vec::new(rt.alloc());
     for place in 0..count {
-        octets.push((place % 251) as u8)?;
+        octets.push((place % 251) as u8).expect(rt, "memory");
     }
-    Ok(octets)
+    octets
 }
 
 /// A datagram is cut at 2,048 octets alone.
@@ -128,13 +127,12 @@ fn expect_cut<R: Abort + AllocGlobal>(
     near: &mut UdpPort,
     far: &mut UdpPort,
     octets: &mut ArrayVec<u8, 2048>,
-) -> Result<(), Fail> {
+) {
     for (sent, taken) in &LENGTHS {
-        let given = counted(rt, *sent)?;
-        let wanted = counted(rt, *taken)?;
-        expect_comes(rt, near, far, octets, given.as_slice(), wanted.as_slice())?;
+        let given = counted(rt, *sent);
+        let wanted = counted(rt, *taken);
+        expect_comes(rt, near, far, octets, given.as_slice(), wanted.as_slice());
     }
-    Ok(())
 }
 
 /// A datagram that UDP can't carry is a failure.
@@ -151,27 +149,27 @@ fn over_udp<R: Abort + AllocGlobal>(
     near: &mut UdpPort,
     far: &mut UdpPort,
     octets: &mut ArrayVec<u8, 2048>,
-) -> Result<(), Fail> {
-    expect_eq(rt, &near.local()?, &HERE);
+) {
+    expect_eq(rt, &near.local().expect(rt, "local"), &HERE);
     expect_eq(rt, &near.addr(), &HERE);
-    expect_alone(rt, near, far, octets)?;
-    expect_nothing(rt, far, octets)?;
+    expect_alone(rt, near, far, octets);
+    expect_nothing(rt, far, octets);
     expect_no_way(rt, near);
-    expect_cut(rt, near, far, octets)?;
+    expect_cut(rt, near, far, octets);
     // A datagram of IPv4 has 65,535 octets at most, of which 28 are headers (RFC 791, RFC 768).
-    expect_failure(rt, near, counted(rt, 65_508)?.as_slice());
+    expect_failure(rt, near, counted(rt, 65_508).as_slice());
     // What is sent after it comes.
-    expect_comes(rt, near, far, octets, b"hello", b"hello")?;
+    expect_comes(rt, near, far, octets, b"hello", b"hello");
     expect_nothing(rt, far, octets)
 }
 
 #[test]
-fn datagrams_go_over_udp(rt: HostRuntime) -> Result<(), Fail> {
-    let chosen = chosen(&rt)?;
+fn datagrams_go_over_udp(rt: HostRuntime) {
+    let chosen = chosen(&rt, &rt);
     expect_eq(&rt, &chosen.ip, &HERE.ip);
     expect(&rt, chosen.port > 0);
-    let mut near = UdpPort::bind(&rt, HERE)?;
-    let mut far = UdpPort::bind(&rt, THERE)?;
+    let mut near = UdpPort::bind(&rt, HERE).expect(&rt, "bound");
+    let mut far = UdpPort::bind(&rt, THERE).expect(&rt, "bound");
     expect(&rt, UdpPort::bind(&rt, HERE).is_err());
     over_udp(&rt, &mut near, &mut far, &mut ArrayVec::new())
 }
@@ -231,16 +229,25 @@ fn the_clock_of_the_machine(rt: HostRuntime) {
 }
 
 #[test]
-fn a_clock_without_a_moment_tells_the_last_one_again(rt: HostRuntime) -> Result<(), Fail> {
+fn a_clock_without_a_moment_tells_the_last_one_again(rt: HostRuntime) {
     let machine = Machine::new();
     machine.since_boot.set(Some(7));
     let mut clock = MachineClock::new(&machine);
     for (shows, told) in TIMES {
         machine.shows.set(shows);
-        expect_eq_in(&rt, &told, &clock.now(), &moment(told)?);
-        expect_eq_in(&rt, &told, &clock.last(), &moment(told)?);
+        expect_eq_in(
+            &rt,
+            &told,
+            &clock.now(),
+            &Moment::new(told).expect(&rt, "a moment"),
+        );
+        expect_eq_in(
+            &rt,
+            &told,
+            &clock.last(),
+            &Moment::new(told).expect(&rt, "a moment"),
+        );
     }
-    Ok(())
 }
 
 /// What the machine's monotonic clock shows, and the moment that is told: it goes on past 2^32 ms, some 50 days, and for many years.
@@ -256,27 +263,31 @@ const STEADY_TIMES: [(Option<u64>, u64); 9] = [
     (Some(END - 1), END),
 ];
 
-fn expect_steady<R: Abort>(
-    rt: &R,
-    machine: &Machine,
-    clock: &mut SteadyClock<'_, Machine>,
-) -> Result<(), Fail> {
+fn expect_steady<R: Abort>(rt: &R, machine: &Machine, clock: &mut SteadyClock<'_, Machine>) {
     for (shows, told) in STEADY_TIMES {
         machine.since_boot.set(shows);
         // What the time of day is doesn't matter to it.
         machine.shows.set(Some(told + 5_000));
-        expect_eq_in(rt, &told, &clock.now(), &moment(told)?);
+        expect_eq_in(
+            rt,
+            &told,
+            &clock.now(),
+            &Moment::new(told).expect(rt, "a moment"),
+        );
     }
-    Ok(())
 }
 
 #[test]
-fn a_steady_clock_goes_on_from_boot_and_never_back(rt: HostRuntime) -> Result<(), Fail> {
+fn a_steady_clock_goes_on_from_boot_and_never_back(rt: HostRuntime) {
     let machine = Machine::new();
     machine.since_boot.set(Some(1_000));
-    let mut clock = SteadyClock::begin(&machine)?;
+    let mut clock = SteadyClock::begin(&machine).expect(&rt, "begin");
     machine.since_boot.set(None);
-    expect_eq(&rt, &clock.now(), &moment(1_000)?);
+    expect_eq(
+        &rt,
+        &clock.now(),
+        &Moment::new(1_000).expect(&rt, "a moment"),
+    );
     expect_steady(&rt, &machine, &mut clock)
 }
 
@@ -290,7 +301,7 @@ const NOT_BEGUN: [(Option<u64>, &str); 2] = [
 ];
 
 #[test]
-fn a_steady_clock_that_can_not_be_read_at_first(rt: HostRuntime) -> Result<(), Fail> {
+fn a_steady_clock_that_can_not_be_read_at_first(rt: HostRuntime) {
     let machine = Machine::new();
     machine.shows.set(Some(60_000));
     for (shows, said) in &NOT_BEGUN {
@@ -298,7 +309,10 @@ fn a_steady_clock_that_can_not_be_read_at_first(rt: HostRuntime) -> Result<(), F
         let mut errors = Vec::new(rt.alloc());
         let refused = steady_clock(&machine, HERE, &mut errors).err();
         expect_eq(&rt, &refused, &Some(Fault::NoClock));
-        expect_eq(&rt, &str::from_utf8(errors.as_slice())?, said);
+        expect_eq(
+            &rt,
+            &str::from_utf8(errors.as_slice()).expect(&rt, "a text"),
+            said,
+        );
     }
-    Ok(())
 }

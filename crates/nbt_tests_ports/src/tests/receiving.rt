@@ -8,7 +8,6 @@ use nbt_port::{
 };
 use std::io;
 use std::process::Abort;
-use std::test::Fail;
 use std::time::{Clock, Duration};
 
 /// A port that no other test has.
@@ -23,74 +22,68 @@ const THERE: Addr = Addr {
 };
 
 /// How long a receive of nothing takes.
-fn waited<R: Abort + Clock, P: Port>(rt: &R, port: &mut P, waits: bool) -> Result<Duration, Fail> {
+fn waited<R: Abort + Clock, P: Port>(rt: &R, port: &mut P, waits: bool) -> Duration {
     let mut octets = ArrayVec::new();
-    let begin = rt.monotonic()?;
+    let begin = rt.monotonic().expect(rt, "monotonic");
     expect(rt, port.failures() < 1 << 62);
     let from = if waits {
-        port.receive(&mut octets)?
+        port.receive(&mut octets).expect(rt, "received")
     } else {
-        port.receive_now(&mut octets)?
+        port.receive_now(&mut octets).expect(rt, "receive now")
     };
     expect_eq(rt, &from, &None);
-    Ok(rt.monotonic()?.saturating_sub(begin))
+    rt.monotonic().expect(rt, "monotonic").saturating_sub(begin)
 }
 
 /// How long the shortest of three receives of nothing takes: other work on the machine makes one longer, and hardly all.
-fn shortest<R: Abort + Clock, P: Port>(
-    rt: &R,
-    port: &mut P,
-    waits: bool,
-) -> Result<Duration, Fail> {
-    let mut least = waited(rt, port, waits)?;
+fn shortest<R: Abort + Clock, P: Port>(rt: &R, port: &mut P, waits: bool) -> Duration {
+    let mut least = waited(rt, port, waits);
     for _ in 0..2 {
-        let next = waited(rt, port, waits)?;
+        let next = waited(rt, port, waits);
         if next < least {
             least = next;
         }
     }
-    Ok(least)
+    least
 }
 
 /// A receive waits for 100 ms; one that doesn't wait takes much less. Which of them was before doesn't matter.
-fn expect_waits<R: Abort + Clock, P: Port>(rt: &R, port: &mut P) -> Result<(), Fail> {
+fn expect_waits<R: Abort + Clock, P: Port>(rt: &R, port: &mut P) {
     for _ in 0..2 {
-        let least = shortest(rt, port, true)?;
+        let least = shortest(rt, port, true);
         expect(rt, least >= Duration::from_millis(RECEIVE_WAIT - 10));
         expect(rt, least < Duration::from_millis(RECEIVE_WAIT * 8));
-        let least = shortest(rt, port, false)?;
+        let least = shortest(rt, port, false);
         expect(rt, least < Duration::from_millis(RECEIVE_WAIT / 2));
     }
-    Ok(())
 }
 
 #[test]
-fn how_long_a_receive_waits(rt: HostRuntime) -> Result<(), Fail> {
-    expect_waits(&rt, &mut UdpPort::bind(&rt, HERE)?)?;
-    let bind = Bind::To(vec![in rt.alloc(); HERE, THERE]?);
+fn how_long_a_receive_waits(rt: HostRuntime) {
+    expect_waits(&rt, &mut UdpPort::bind(&rt, HERE).expect(&rt, "bound"));
+    let bind = Bind::To(vec![in rt.alloc(); HERE, THERE].expect(&rt, "memory"));
     let mut errors = Vec::new(rt.alloc());
     expect_waits(
         &rt,
-        &mut UdpPorts::bind(&rt, rt.alloc(), &bind, &mut errors)?,
+        &mut UdpPorts::bind(&rt, rt.alloc(), &bind, &mut errors).expect(&rt, "bound"),
     )
 }
 
 /// There is no way to port 0. What is lost to another host isn't told.
 #[test]
-fn a_port_watches_one_host(rt: HostRuntime) -> Result<(), Fail> {
+fn a_port_watches_one_host(rt: HostRuntime) {
     let nowhere = Addr { port: 0, ..THERE };
-    let mut port = UdpPort::bind(&rt, Addr { port: 0, ..HERE })?;
+    let mut port = UdpPort::bind(&rt, Addr { port: 0, ..HERE }).expect(&rt, "bound");
     port.watch(THERE);
-    port.send(nowhere, b"lost")?;
+    port.send(nowhere, b"lost").expect(&rt, "sent");
     expect(&rt, port.lost().is_none());
     port.watch(nowhere);
     expect(&rt, port.failures() < 1 << 62);
-    port.send(nowhere, b"lost")?;
+    port.send(nowhere, b"lost").expect(&rt, "sent");
     expect(&rt, port.lost().is_some());
     expect(&rt, port.failures() < 1 << 62);
-    port.send(THERE, b"elsewhere")?;
+    port.send(THERE, b"elsewhere").expect(&rt, "sent");
     expect(&rt, port.lost().is_some());
-    Ok(())
 }
 
 /// Why a port failed is said where that ended all, and at no other end.

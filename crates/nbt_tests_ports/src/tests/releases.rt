@@ -7,9 +7,8 @@ use nbt_name::{Addr, Kind, Name};
 use nbt_port::{Fault, MemoryClock, MemoryPort, Port, UdpPort};
 use nbt_release::{release_over, run_release};
 use nbt_server::Server;
-use nbt_testing::{Row, expect_sent};
+use nbt_testing::{Row, sent_all};
 use std::process::Abort;
-use std::test::Fail;
 use std::time;
 
 const SERVER: Addr = Addr {
@@ -55,16 +54,18 @@ struct Released {
     sent: &'static [Row],
 }
 
-fn wants<R: AllocGlobal>(rt: &R, names: &[(&'static [u8; 16], Kind)]) -> Result<Vec<Want>, Fail> {
+fn wants<R: Abort + AllocGlobal>(rt: &R, names: &[(&'static [u8; 16], Kind)]) -> Vec<Want> {
     let mut wants = Vec::new(rt.alloc());
     for (octets, kind) in names {
-        wants.push(Want {
-            name: Name::new(octets, b"")?,
-            kind: *kind,
-            ttl: 0,
-        })?;
+        wants
+            .push(Want {
+                name: Name::new(octets, b"").expect(rt, "a name"),
+                kind: *kind,
+                ttl: 0,
+            })
+            .expect(rt, "memory");
     }
-    Ok(wants)
+    wants
 }
 
 fn see_released<R: Abort + AllocGlobal>(
@@ -73,13 +74,17 @@ fn see_released<R: Abort + AllocGlobal>(
     clock: &mut MemoryClock,
     wants: &[Want],
     row: &Released,
-) -> Result<(), Fail> {
+) {
     let mut printed = Vec::new(rt.alloc());
     expect(rt, port.failures() < 1 << 62);
     let all = release_over(port, clock, rt.alloc(), HOST, SERVER, wants, &mut printed);
-    expect_eq(rt, &str::from_utf8(printed.as_slice())?, &row.printed);
+    expect_eq(
+        rt,
+        &str::from_utf8(printed.as_slice()).expect(rt, "a text"),
+        &row.printed,
+    );
     expect_eq_in(rt, &row.printed, &all, &row.all);
-    expect_sent(rt, port, row.sent)
+    sent_all(rt, port, row.sent).expect(rt, "sent")
 }
 
 impl Scene for Released {
@@ -89,11 +94,11 @@ impl Scene for Released {
         port: &mut MemoryPort,
         clock: &mut MemoryClock,
         _: &mut Server,
-    ) -> Result<(), Fail> {
+    ) {
         if let Some(calls) = self.fails_after {
             port.fail_after(calls);
         }
-        let wants = wants(rt, self.wants)?;
+        let wants = wants(rt, self.wants);
         see_released(rt, port, clock, wants.as_slice(), self)
     }
 }
@@ -193,29 +198,25 @@ const RELEASED: &[Released] = &[
     },
 ];
 
-fn play_released<R: Abort + AllocGlobal + time::Clock>(
-    rt: &R,
-    rows: &[Released],
-) -> Result<(), Fail> {
+fn play_released<R: Abort + AllocGlobal + time::Clock>(rt: &R, rows: &[Released]) {
     for row in rows {
-        play_on(rt, row.given, row.moments, row)?;
+        play_on(rt, row.given, row.moments, row);
     }
-    Ok(())
 }
 
 #[test]
-fn names_that_are_given_back(rt: HostRuntime) -> Result<(), Fail> {
+fn names_that_are_given_back(rt: HostRuntime) {
     play_released(&rt, RELEASED)
 }
 
 #[test]
-fn nothing_is_given_back_where_a_host_runs(rt: HostRuntime) -> Result<(), Fail> {
+fn nothing_is_given_back_where_a_host_runs(rt: HostRuntime) {
     let here = Addr {
         ip: 0x7F2A1704,
         port: 20_191,
     };
-    let _taken = UdpPort::bind(&rt, here)?;
-    let wants = wants(&rt, FRED)?;
+    let _taken = UdpPort::bind(&rt, here).expect(&rt, "bound");
+    let wants = wants(&rt, FRED);
     let mut printed = Vec::new(rt.alloc());
     let mut errors = Vec::new(rt.alloc());
     let wanted = wants.as_slice();
@@ -232,8 +233,7 @@ fn nothing_is_given_back_where_a_host_runs(rt: HostRuntime) -> Result<(), Fail> 
     expect(&rt, printed.is_empty());
     expect_eq(
         &rt,
-        &str::from_utf8(errors.as_slice())?,
+        &str::from_utf8(errors.as_slice()).expect(&rt, "a text"),
         &"nbt: 127.42.23.4:20191: Address already in use (os error 98): a host runs there\n",
     );
-    Ok(())
 }

@@ -9,9 +9,8 @@ use nbt_scan::{
     run_scan, scan_over, span_of,
 };
 use nbt_server::Server;
-use nbt_testing::{Row, expect_sent};
+use nbt_testing::{Row, sent_all};
 use std::process::Abort;
-use std::test::Fail;
 use std::time;
 
 const SEVEN: Addr = Addr {
@@ -128,7 +127,7 @@ fn see_scanned<R: Abort + AllocGlobal>(
     clock: &mut MemoryClock,
     plan: &Plan,
     row: &Scanned,
-) -> Result<(), Fail> {
+) {
     expect(rt, plan.is_sound());
     let mut printed = Vec::new(rt.alloc());
     expect(rt, port.failures() < 1 << 61);
@@ -144,10 +143,14 @@ fn see_scanned<R: Abort + AllocGlobal>(
         &mut meter,
         &mut errors,
     );
-    expect_eq(rt, &str::from_utf8(printed.as_slice())?, &row.printed);
+    expect_eq(
+        rt,
+        &str::from_utf8(printed.as_slice()).expect(rt, "a text"),
+        &row.printed,
+    );
     expect_eq_in(rt, &row.printed, &any, &row.any);
     expect(rt, errors.is_empty());
-    expect_sent(rt, port, row.sent)
+    sent_all(rt, port, row.sent).expect(rt, "sent")
 }
 
 impl Scene for Scanned {
@@ -157,12 +160,12 @@ impl Scene for Scanned {
         port: &mut MemoryPort,
         clock: &mut MemoryClock,
         _: &mut Server,
-    ) -> Result<(), Fail> {
+    ) {
         if let Some(calls) = self.fails_after {
             port.fail_after(calls);
         }
         let plan = Plan {
-            ips: Vec::from_slice(rt.alloc(), self.ips)?,
+            ips: Vec::from_slice(rt.alloc(), self.ips).expect(rt, "memory"),
             port: 137,
             rate: 500,
             tries: self.tries,
@@ -476,20 +479,16 @@ const PRINTED: &[Scanned] = &[
     },
 ];
 
-fn play_scanned<R: Abort + AllocGlobal + time::Clock>(
-    rt: &R,
-    rows: &[Scanned],
-) -> Result<(), Fail> {
+fn play_scanned<R: Abort + AllocGlobal + time::Clock>(rt: &R, rows: &[Scanned]) {
     for row in rows {
-        play_on(rt, row.given, row.moments, row)?;
+        play_on(rt, row.given, row.moments, row);
     }
-    Ok(())
 }
 
 #[test]
-fn scans(rt: HostRuntime) -> Result<(), Fail> {
-    play_scanned(&rt, REPLIED)?;
-    play_scanned(&rt, SILENT)?;
+fn scans(rt: HostRuntime) {
+    play_scanned(&rt, REPLIED);
+    play_scanned(&rt, SILENT);
     play_scanned(&rt, PRINTED)
 }
 
@@ -510,7 +509,7 @@ fn see_shown<R: Abort + AllocGlobal>(
     clock: &mut MemoryClock,
     plan: &Plan,
     row: &Shown,
-) -> Result<(), Fail> {
+) {
     expect(rt, plan.is_sound());
     let mut printed = Vec::new(rt.alloc());
     let mut errors = Vec::new(rt.alloc());
@@ -526,15 +525,22 @@ fn see_shown<R: Abort + AllocGlobal>(
         &mut meter,
         &mut errors,
     );
-    expect_eq(rt, &str::from_utf8(printed.as_slice())?, &row.printed);
+    expect_eq(
+        rt,
+        &str::from_utf8(printed.as_slice()).expect(rt, "a text"),
+        &row.printed,
+    );
     expect_eq_in(rt, &row.printed, &any, &row.any);
     let mut said = String::new(rt.alloc());
     for part in row.said {
-        said.push_str(HIDES)?;
-        said.push_str(part)?;
+        said.push_str(HIDES).expect(rt, "memory");
+        said.push_str(part).expect(rt, "memory");
     }
-    expect_eq(rt, &str::from_utf8(errors.as_slice())?, &said.as_str());
-    Ok(())
+    expect_eq(
+        rt,
+        &str::from_utf8(errors.as_slice()).expect(rt, "a text"),
+        &said.as_str(),
+    );
 }
 
 /// What hides a line that stands there.
@@ -547,9 +553,9 @@ impl Scene for Shown {
         port: &mut MemoryPort,
         clock: &mut MemoryClock,
         _: &mut Server,
-    ) -> Result<(), Fail> {
+    ) {
         let plan = Plan {
-            ips: Vec::from_slice(rt.alloc(), ALL)?,
+            ips: Vec::from_slice(rt.alloc(), ALL).expect(rt, "memory"),
             port: 137,
             rate: 500,
             tries: self.tries,
@@ -604,15 +610,14 @@ const SHOWN: &[Shown] = &[
     },
 ];
 
-fn play_shown<R: Abort + AllocGlobal + time::Clock>(rt: &R, rows: &[Shown]) -> Result<(), Fail> {
+fn play_shown<R: Abort + AllocGlobal + time::Clock>(rt: &R, rows: &[Shown]) {
     for row in rows {
-        play_on(rt, row.given, row.moments, row)?;
+        play_on(rt, row.given, row.moments, row);
     }
-    Ok(())
 }
 
 #[test]
-fn scans_that_say_how_far_they_are(rt: HostRuntime) -> Result<(), Fail> {
+fn scans_that_say_how_far_they_are(rt: HostRuntime) {
     play_shown(&rt, SHOWN)
 }
 
@@ -630,19 +635,15 @@ const PLACES: &[(&[u32], u32, Option<usize>)] = &[
     (&[1, 3, 5, 7], 0xFFFF_FFFF, None),
 ];
 
-fn see_places<R: Abort>(
-    rt: &R,
-    places: &[(&'static [u32], u32, Option<usize>)],
-) -> Result<(), Fail> {
+fn see_places<R: Abort>(rt: &R, places: &[(&'static [u32], u32, Option<usize>)]) {
     for (ips, ip, place) in places {
         expect(rt, are_ascending(ips));
         expect_eq_in(rt, ip, &place_of(ips, *ip), place);
     }
-    Ok(())
 }
 
 #[test]
-fn places_of_addresses(rt: HostRuntime) -> Result<(), Fail> {
+fn places_of_addresses(rt: HostRuntime) {
     see_places(&rt, PLACES)
 }
 
@@ -702,9 +703,9 @@ fn networks_ranges_and_addresses(rt: HostRuntime) {
 
 /// What a scan can't do: addresses that aren't ascending, or twice the same; a rate of 0; no pass.
 #[test]
-fn plans_that_no_scan_does(rt: HostRuntime) -> Result<(), Fail> {
+fn plans_that_no_scan_does(rt: HostRuntime) {
     let mut plan = Plan {
-        ips: Vec::from_slice(rt.alloc(), ALL)?,
+        ips: Vec::from_slice(rt.alloc(), ALL).expect(&rt, "memory"),
         port: 137,
         rate: 1,
         tries: 1,
@@ -718,14 +719,13 @@ fn plans_that_no_scan_does(rt: HostRuntime) -> Result<(), Fail> {
     expect(&rt, !plan.is_sound());
     expect(&rt, !are_ascending(&[1, 3, 2]));
     expect(&rt, !are_ascending(&[3, 3]));
-    Ok(())
 }
 
 /// A socket of this machine at 127.42.23.5, where nobody listens at 127.42.23.6.
 #[test]
-fn a_scan_over_this_machine(rt: HostRuntime) -> Result<(), Fail> {
+fn a_scan_over_this_machine(rt: HostRuntime) {
     let plan = Plan {
-        ips: Vec::from_slice(rt.alloc(), &[0x7F2A1706])?,
+        ips: Vec::from_slice(rt.alloc(), &[0x7F2A1706]).expect(&rt, "memory"),
         port: 20_192,
         rate: 500,
         tries: 2,
@@ -751,14 +751,13 @@ fn a_scan_over_this_machine(rt: HostRuntime) -> Result<(), Fail> {
     expect_eq(&rt, &any, &Ok(false));
     expect(&rt, printed.is_empty());
     expect(&rt, errors.is_empty());
-    Ok(())
 }
 
 /// There is no way to port 0, which is said once, of the first address. All requests are lost, and none is a failure.
 #[test]
-fn a_scan_without_a_route(rt: HostRuntime) -> Result<(), Fail> {
+fn a_scan_without_a_route(rt: HostRuntime) {
     let plan = Plan {
-        ips: Vec::from_slice(rt.alloc(), &[0x7F2A1706, 0x7F2A1707])?,
+        ips: Vec::from_slice(rt.alloc(), &[0x7F2A1706, 0x7F2A1707]).expect(&rt, "memory"),
         port: 0,
         rate: 500,
         tries: 2,
@@ -785,16 +784,15 @@ fn a_scan_without_a_route(rt: HostRuntime) -> Result<(), Fail> {
     expect(&rt, printed.is_empty());
     expect_eq(
         &rt,
-        &str::from_utf8(errors.as_slice())?,
+        &str::from_utf8(errors.as_slice()).expect(&rt, "a text"),
         &"nbt: 127.42.23.6:0: send: Invalid argument (os error 22)\n",
     );
-    Ok(())
 }
 
 #[test]
-fn a_scan_from_an_address_in_use(rt: HostRuntime) -> Result<(), Fail> {
+fn a_scan_from_an_address_in_use(rt: HostRuntime) {
     let plan = Plan {
-        ips: Vec::from_slice(rt.alloc(), &[0x7F2A1706])?,
+        ips: Vec::from_slice(rt.alloc(), &[0x7F2A1706]).expect(&rt, "memory"),
         port: 20_193,
         rate: 500,
         tries: 1,
@@ -805,7 +803,7 @@ fn a_scan_from_an_address_in_use(rt: HostRuntime) -> Result<(), Fail> {
         ip: 0x7F2A1705,
         port: 20_193,
     };
-    let _taken = UdpPort::bind(&rt, here)?;
+    let _taken = UdpPort::bind(&rt, here).expect(&rt, "bound");
     let mut printed = Vec::new(rt.alloc());
     let mut errors = Vec::new(rt.alloc());
     let any = run_scan(
@@ -822,22 +820,21 @@ fn a_scan_from_an_address_in_use(rt: HostRuntime) -> Result<(), Fail> {
     expect(&rt, printed.is_empty());
     expect_eq(
         &rt,
-        &str::from_utf8(errors.as_slice())?,
+        &str::from_utf8(errors.as_slice()).expect(&rt, "a text"),
         &"nbt: 127.42.23.5:20193: Address already in use (os error 98)\n",
     );
-    Ok(())
 }
 
 /// Runs of addresses that overlap: each address once, in order. And how many there may be.
 #[test]
-fn addresses_of_runs(rt: HostRuntime) -> Result<(), Fail> {
+fn addresses_of_runs(rt: HostRuntime) {
     let runs = [
         Span { first: 7, last: 9 },
         Span { first: 1, last: 2 },
         Span { first: 8, last: 10 },
     ];
     expect(&rt, are_few(&runs));
-    let ips = addresses_of(rt.alloc(), &runs)?;
+    let ips = addresses_of(rt.alloc(), &runs).expect(&rt, "addresses of");
     expect_eq(&rt, &ips.as_slice(), &[1, 2, 7, 8, 9, 10].as_slice());
     expect(
         &rt,
@@ -863,5 +860,4 @@ fn addresses_of_runs(rt: HostRuntime) -> Result<(), Fail> {
             last: 0xFFFF_FFFF,
         }]),
     );
-    Ok(())
 }

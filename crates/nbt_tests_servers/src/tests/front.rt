@@ -9,10 +9,9 @@ use nbt_name::{Addr, Kind};
 use nbt_port::{Device, MemoryClock, MemoryPort, OwnReplies, Port};
 use nbt_serve::{Counts, serve_turns};
 use nbt_server::Server;
-use nbt_testing::{Row, clock as clock_of, config, expect_sent, port as port_of};
+use nbt_testing::{Row, clock as clock_of, config, port as port_of, sent_all};
 use nbt_text::{Case, read_name};
 use std::process::Abort;
-use std::test::Fail;
 use std::{mem, time};
 
 // ---- networks
@@ -70,12 +69,11 @@ fn ip_of(octets: [u8; 4]) -> u32 {
     u32::from_be_bytes(octets)
 }
 
-fn expect_networks<R: Abort>(rt: &R, rows: &[(&str, [u8; 4], bool)]) -> Result<(), Fail> {
+fn expect_networks<R: Abort>(rt: &R, rows: &[(&str, [u8; 4], bool)]) {
     for row in rows {
-        let network = read_network(row.0.as_bytes()).ok_or("no network")?;
+        let network = read_network(row.0.as_bytes()).expect(rt, "a network");
         expect_eq_in(rt, &row.0, &network.contains(ip_of(row.1)), &row.2);
     }
-    Ok(())
 }
 
 fn expect_no_networks<R: Abort>(rt: &R, texts: &[&str]) {
@@ -85,7 +83,7 @@ fn expect_no_networks<R: Abort>(rt: &R, texts: &[&str]) {
 }
 
 #[test]
-fn a_network_has_the_addresses_whose_first_bits_are_its_own(rt: HostRuntime) -> Result<(), Fail> {
+fn a_network_has_the_addresses_whose_first_bits_are_its_own(rt: HostRuntime) {
     expect_no_networks(&rt, NO_NETWORKS);
     expect_networks(&rt, NETWORKS)
 }
@@ -285,36 +283,26 @@ const WRONG_FILES: &[(&str, usize, &str)] = &[
     ("FILER x x", 1, "kind: unique or group is wanted"),
 ];
 
-fn expect_file<R: Abort + AllocGlobal>(
-    rt: &R,
-    row: &(&str, usize, (&str, Kind, &[u32])),
-) -> Result<(), Fail> {
+fn expect_file<R: Abort + AllocGlobal>(rt: &R, row: &(&str, usize, (&str, Kind, &[u32]))) {
     let (text, count, (name, kind, addrs)) = row;
     let Ok(names) = read_fixed(rt.alloc(), text.as_bytes()) else {
-        return Err(Fail::new(*text));
+        panic!(rt; "{}", text);
     };
     expect_eq_in(rt, text, &names.len(), count);
-    let name = read_name(Case::Exact, name.as_bytes(), b"")?;
-    let fixed = names.get(&name).ok_or("not fixed")?;
+    let name = read_name(Case::Exact, name.as_bytes(), b"").expect(rt, "a name");
+    let fixed = names.get(&name).expect(rt, "a fixed name");
     expect_eq_in(rt, text, &fixed.kind(), kind);
     expect_eq_in(rt, text, &fixed.addrs(), addrs);
-    Ok(())
 }
 
-fn expect_wrong<R: Abort + AllocGlobal>(
-    rt: &R,
-    text: &str,
-    line: usize,
-    words: &str,
-) -> Result<(), Fail> {
+fn expect_wrong<R: Abort + AllocGlobal>(rt: &R, text: &str, line: usize, words: &str) {
     match read_fixed(rt.alloc(), text.as_bytes()) {
         Err(FileFault::Line(number, fault)) => {
             expect_eq_in(rt, &text, &number, &line);
-            let said = format!(in rt.alloc(); "{fault}")?;
+            let said = format!(in rt.alloc(); "{fault}").expect(rt, "memory");
             expect_eq_in(rt, &text, &said.as_str(), &words);
-            Ok(())
         }
-        _ => Err(Fail::new("a wrong file was read")),
+        _ => panic!(rt; "a wrong file was read"),
     }
 }
 
@@ -322,32 +310,31 @@ fn expect_files<R: Abort + AllocGlobal>(
     rt: &R,
     rows: &[(&str, usize, (&str, Kind, &[u32]))],
     wrong: &[(&str, usize, &str)],
-) -> Result<(), Fail> {
+) {
     for row in rows {
-        expect_file(rt, row)?;
+        expect_file(rt, row);
     }
     for (text, line, words) in wrong {
-        expect_wrong(rt, text, *line, words)?;
+        expect_wrong(rt, text, *line, words);
     }
-    Ok(())
 }
 
 #[test]
-fn a_file_has_the_names_of_its_lines_or_a_first_wrong_line(rt: HostRuntime) -> Result<(), Fail> {
+fn a_file_has_the_names_of_its_lines_or_a_first_wrong_line(rt: HostRuntime) {
     expect_files(&rt, FILES, WRONG_FILES)
 }
 
 /// A file of so many lines, each with another name, or with another address of one group.
-fn long_file<R: AllocGlobal>(rt: &R, names: usize, addrs: usize) -> Result<String, Fail> {
+fn long_file<R: Abort + AllocGlobal>(rt: &R, names: usize, addrs: usize) -> String {
     let mut text = String::new(rt.alloc());
     for k in 0..names {
         let (high, low) = (k / 256, k % 256);
-        writeln!(text, "N{k} unique 10.0.{high}.{low}")?;
+        writeln!(text, "N{k} unique 10.0.{high}.{low}").expect(rt, "memory");
     }
     for k in 0..addrs {
-        writeln!(text, "TEAM group 10.1.0.{k}")?;
+        writeln!(text, "TEAM group 10.1.0.{k}").expect(rt, "memory");
     }
-    Ok(text)
+    text
 }
 
 fn expect_most<R: Abort + AllocGlobal>(
@@ -355,24 +342,23 @@ fn expect_most<R: Abort + AllocGlobal>(
     names: usize,
     addrs: usize,
     wrong: Option<(usize, &str)>,
-) -> Result<(), Fail> {
-    let text = long_file(rt, names, addrs)?;
+) {
+    let text = long_file(rt, names, addrs);
     match wrong {
         Some((line, words)) => expect_wrong(rt, text.as_str(), line, words),
         None => {
             let read = read_fixed(rt.alloc(), text.as_bytes());
             expect_in(rt, &names, read.is_ok());
-            Ok(())
         }
     }
 }
 
 #[test]
-fn a_file_has_1024_names_at_most_and_a_group_48_addresses(rt: HostRuntime) -> Result<(), Fail> {
-    expect_most(&rt, 1_024, 0, None)?;
-    expect_most(&rt, 1_023, 48, None)?;
-    expect_most(&rt, 1_025, 0, Some((1_025, "more than 1024 names")))?;
-    expect_most(&rt, 1_024, 1, Some((1_025, "more than 1024 names")))?;
+fn a_file_has_1024_names_at_most_and_a_group_48_addresses(rt: HostRuntime) {
+    expect_most(&rt, 1_024, 0, None);
+    expect_most(&rt, 1_023, 48, None);
+    expect_most(&rt, 1_025, 0, Some((1_025, "more than 1024 names")));
+    expect_most(&rt, 1_024, 1, Some((1_025, "more than 1024 names")));
     expect_most(
         &rt,
         1,
@@ -653,22 +639,28 @@ const BY_THE_SERVER: &[(Row, Option<Row>)] = &[
 ];
 
 /// The front of these names, behind which only 127.0.0.0/8 may register.
-fn front_of<R: AllocGlobal>(rt: &R) -> Result<Front, Fail> {
+fn front_of<R: Abort + AllocGlobal>(rt: &R) -> Front {
     let mut allowed = Vec::new(rt.alloc());
-    allowed.push(read_network(b"127.0.0.0/8").ok_or("no network")?)?;
+    allowed
+        .push(read_network(b"127.0.0.0/8").expect(rt, "a network"))
+        .expect(rt, "memory");
     let Ok(fixed) = read_fixed(rt.alloc(), FIXED.as_bytes()) else {
-        return Err(Fail::new("no names"));
+        panic!(rt; "no names");
     };
-    Ok(Front::new(allowed, fixed, config(4096)?))
+    Front::new(allowed, fixed, config(4096).expect(rt, "limits"))
 }
 
 /// This front at work, by a clock that tells these moments.
-fn desk_of<'a, R: AllocGlobal>(
+fn desk_of<'a, R: Abort + AllocGlobal>(
     rt: &R,
     front: &'a Front,
     moments: &[u64],
-) -> Result<Desk<'a, MemoryClock>, Fail> {
-    Ok(Desk::new(rt.alloc(), front, clock_of(rt, moments)?))
+) -> Desk<'a, MemoryClock> {
+    Desk::new(
+        rt.alloc(),
+        front,
+        clock_of(rt, moments).expect(rt, "a clock"),
+    )
 }
 
 /// `serve_turns` at a port of which few calls have failed.
@@ -699,13 +691,13 @@ impl Scene for Behind<'_> {
         port: &mut MemoryPort,
         clock: &mut MemoryClock,
         server: &mut Server,
-    ) -> Result<(), Fail> {
-        let beneath = mem::replace(port, port_of(rt, &[])?);
-        let mut over = FrontPort::new(beneath, desk_of(rt, self.front, &[])?);
-        let counts = serve(rt, &mut over, clock, server, self.turns)?;
+    ) {
+        let beneath = mem::replace(port, port_of(rt, &[]).expect(rt, "a port"));
+        let mut over = FrontPort::new(beneath, desk_of(rt, self.front, &[]));
+        let counts = serve(rt, &mut over, clock, server, self.turns).expect(rt, "serve");
         expect_eq(rt, &counts.receives, &self.turns);
         expect_eq(rt, &counts.replies, &self.by_the_server);
-        expect_sent(rt, over.beneath(), self.sent)
+        sent_all(rt, over.beneath(), self.sent).expect(rt, "sent")
     }
 }
 
@@ -715,7 +707,7 @@ fn play_rows<R: Abort + AllocGlobal + time::Clock>(
     front: &Front,
     rows: &[(Row, Row)],
     moment: u64,
-) -> Result<(), Fail> {
+) {
     for (given, sent) in rows {
         let scene = Behind {
             front,
@@ -723,9 +715,8 @@ fn play_rows<R: Abort + AllocGlobal + time::Clock>(
             turns: 2,
             by_the_server: 0,
         };
-        play_on(rt, &[*given], &[moment], &scene)?;
+        play_on(rt, &[*given], &[moment], &scene);
     }
-    Ok(())
 }
 
 /// Plays all rows one after the other to one server.
@@ -736,19 +727,19 @@ fn play_all<R: Abort + AllocGlobal + time::Clock>(
     then: &[(Row, Option<Row>)],
     moment: u64,
     is_silent: bool,
-) -> Result<(), Fail> {
+) {
     let mut given = Vec::new(rt.alloc());
     let mut sent = Vec::new(rt.alloc());
     let mut by_the_server = 0u64;
     for (comes, reply) in first {
-        given.push(*comes)?;
-        sent.push(*reply)?;
+        given.push(*comes).expect(rt, "memory");
+        sent.push(*reply).expect(rt, "memory");
     }
     for (comes, reply) in then {
-        given.push(*comes)?;
+        given.push(*comes).expect(rt, "memory");
         if let Some(reply) = reply {
             if !is_silent {
-                sent.push(*reply)?;
+                sent.push(*reply).expect(rt, "memory");
                 by_the_server = by_the_server.saturating_add(1);
             }
         }
@@ -762,14 +753,22 @@ fn play_all<R: Abort + AllocGlobal + time::Clock>(
     play_on(rt, given.as_slice(), &[moment], &scene)
 }
 
+/// Plays all of it while the server is silent, and once it speaks.
+fn play_both<R: Abort + AllocGlobal + time::Clock>(
+    rt: &R,
+    front: &Front,
+    first: &[(Row, Row)],
+    then: &[(Row, Option<Row>)],
+) {
+    play_rows(rt, front, first, 0);
+    play_rows(rt, front, first, 60_000);
+    play_all(rt, front, first, then, 59_999, true);
+    play_all(rt, front, first, then, 60_000, false)
+}
+
 #[test]
-fn a_front_decides_and_the_server_never_sees_it(rt: HostRuntime) -> Result<(), Fail> {
-    let front = front_of(&rt)?;
-    // While the server is silent, and once it speaks.
-    play_rows(&rt, &front, BY_THE_FRONT, 0)?;
-    play_rows(&rt, &front, BY_THE_FRONT, 60_000)?;
-    play_all(&rt, &front, BY_THE_FRONT, BY_THE_SERVER, 59_999, true)?;
-    play_all(&rt, &front, BY_THE_FRONT, BY_THE_SERVER, 60_000, false)
+fn a_front_decides_and_the_server_never_sees_it(rt: HostRuntime) {
+    play_both(&rt, &front_of(&rt), BY_THE_FRONT, BY_THE_SERVER)
 }
 
 // ---- without networks, or without names
@@ -808,9 +807,13 @@ const OPEN: &[(Row, Option<Row>)] = &[
 ];
 
 #[test]
-fn without_networks_and_names_all_is_the_servers(rt: HostRuntime) -> Result<(), Fail> {
+fn without_networks_and_names_all_is_the_servers(rt: HostRuntime) {
     let none = FixedNames::none(rt.alloc());
-    let front = Front::new(Vec::new(rt.alloc()), none, config(4096)?);
+    let front = Front::new(
+        Vec::new(rt.alloc()),
+        none,
+        config(4096).expect(&rt, "limits"),
+    );
     play_all(&rt, &front, &[], OPEN, 60_000, false)
 }
 
@@ -843,13 +846,12 @@ fn receive_and_tell<R: Abort + AllocGlobal, P: Port>(
     port: &mut P,
     octets: &mut ArrayVec<u8, 2048>,
     said: &str,
-) -> Result<(), Fail> {
+) {
     expect(rt, port.failures() < 1 << 62);
-    port.receive(octets)?;
+    port.receive(octets).expect(rt, "received");
     let mut errors = Vec::new(rt.alloc());
     port.tell_changes(&mut errors);
     expect_eq(rt, &errors.as_slice(), &said.as_bytes());
-    Ok(())
 }
 
 /// What is said of each: of what is refused a line, and of nothing else.
@@ -865,9 +867,9 @@ impl Scene for Says<'_> {
         port: &mut MemoryPort,
         _clock: &mut MemoryClock,
         _server: &mut Server,
-    ) -> Result<(), Fail> {
-        let beneath = mem::replace(port, port_of(rt, &[])?);
-        let mut over = FrontPort::new(beneath, desk_of(rt, self.front, &[])?);
+    ) {
+        let beneath = mem::replace(port, port_of(rt, &[]).expect(rt, "a port"));
+        let mut over = FrontPort::new(beneath, desk_of(rt, self.front, &[]));
         let mut octets = ArrayVec::new();
         for said in [
             "",
@@ -877,7 +879,7 @@ impl Scene for Says<'_> {
             "",
             "",
         ] {
-            receive_and_tell(rt, &mut over, &mut octets, said)?;
+            receive_and_tell(rt, &mut over, &mut octets, said);
         }
         let replied = OwnReplies {
             not_allowed: 1,
@@ -886,7 +888,6 @@ impl Scene for Says<'_> {
             fixed_found: 1,
         };
         expect_eq(rt, &over.own_replies(), &replied);
-        Ok(())
     }
 }
 
@@ -904,10 +905,10 @@ impl Scene for SaysFew<'_> {
         port: &mut MemoryPort,
         _clock: &mut MemoryClock,
         _server: &mut Server,
-    ) -> Result<(), Fail> {
-        let beneath = mem::replace(port, port_of(rt, &[])?);
+    ) {
+        let beneath = mem::replace(port, port_of(rt, &[]).expect(rt, "a port"));
         let times = [0, 0, 0, 0, 0, 0, 0, 0, 0, 0, 0, 0, 0, 999, 1_000];
-        let mut over = FrontPort::new(beneath, desk_of(rt, self.front, &times)?);
+        let mut over = FrontPort::new(beneath, desk_of(rt, self.front, &times));
         let mut octets = ArrayVec::new();
         for place in 0..15 {
             let said = match place {
@@ -915,17 +916,17 @@ impl Scene for SaysFew<'_> {
                 14 => "nbt: refused NODEB#20 198.18.137.3: not allowed, 4 left out before\n",
                 _ => "",
             };
-            receive_and_tell(rt, &mut over, &mut octets, said)?;
+            receive_and_tell(rt, &mut over, &mut octets, said);
         }
-        Ok(())
     }
 }
 
 #[test]
-fn what_is_refused_is_said_ten_times_a_second(rt: HostRuntime) -> Result<(), Fail> {
-    let front = front_of(&rt)?;
-    play_on(&rt, SAID, &[0], &Says { front: &front })?;
-    play_on(&rt, &[SAID[2]; 15], &[0], &SaysFew { front: &front })
+fn what_is_refused_is_said_ten_times_a_second(rt: HostRuntime) {
+    let front = front_of(&rt);
+    let rows = SAID;
+    play_on(&rt, rows, &[0], &Says { front: &front });
+    play_on(&rt, &[rows[2]; 15], &[0], &SaysFew { front: &front })
 }
 
 /// A call that fails: the receive, and the send of the front's own reply. Nothing was sent, and one failure is counted.
@@ -942,27 +943,26 @@ impl Scene for Fails<'_> {
         port: &mut MemoryPort,
         clock: &mut MemoryClock,
         server: &mut Server,
-    ) -> Result<(), Fail> {
+    ) {
         port.fail_after(self.call);
-        let beneath = mem::replace(port, port_of(rt, &[])?);
-        let mut over = FrontPort::new(beneath, desk_of(rt, self.front, &[])?);
+        let beneath = mem::replace(port, port_of(rt, &[]).expect(rt, "a port"));
+        let mut over = FrontPort::new(beneath, desk_of(rt, self.front, &[]));
         let served = serve(rt, &mut over, clock, server, 5);
         expect_eq_in(rt, &self.call, &served, &Err(Device));
         expect_eq_in(rt, &self.call, &over.failures(), &1);
         expect_eq_in(rt, &self.call, &over.beneath().failures(), &1);
         expect_in(rt, &self.call, over.beneath().sent().is_empty());
         // And the next turn goes on with what comes next.
-        let counts = serve(rt, &mut over, clock, server, 1)?;
+        let counts = serve(rt, &mut over, clock, server, 1).expect(rt, "serve");
         expect_eq_in(rt, &self.call, &counts.receives, &1);
         expect_eq_in(rt, &self.call, &over.failures(), &1);
         expect_eq_in(rt, &self.call, &over.beneath().sent().len(), &1);
-        Ok(())
     }
 }
 
 #[test]
-fn a_reply_that_can_not_be_sent_is_a_failed_call(rt: HostRuntime) -> Result<(), Fail> {
-    let front = front_of(&rt)?;
+fn a_reply_that_can_not_be_sent_is_a_failed_call(rt: HostRuntime) {
+    let front = front_of(&rt);
     for call in [0, 1] {
         play_on(
             &rt,
@@ -972,7 +972,6 @@ fn a_reply_that_can_not_be_sent_is_a_failed_call(rt: HostRuntime) -> Result<(), 
                 front: &front,
                 call,
             },
-        )?;
+        );
     }
-    Ok(())
 }

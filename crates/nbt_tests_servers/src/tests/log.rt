@@ -10,10 +10,9 @@ use nbt_log::{
 };
 use nbt_name::{Addr, Kind, Name};
 use nbt_server::{Claim, Outcome, Refusal, Server};
-use nbt_testing::{GRANTED, QUERY, REFRESH, REGISTRATION, RELEASE, RIVAL, moment, octets, started};
+use nbt_testing::{GRANTED, QUERY, REFRESH, REGISTRATION, RELEASE, RIVAL, octets, started};
 use nbt_text::parse_name;
 use std::process::Abort;
-use std::test::Fail;
 
 /// 2026-11-24T09:12:03Z.
 const THEN: u64 = 1_795_511_523;
@@ -41,10 +40,10 @@ const TIMES: [(u64, &str); 13] = [
 ];
 
 #[test]
-fn times_of_day(rt: HostRuntime) -> Result<(), Fail> {
+fn times_of_day(rt: HostRuntime) {
     for (second, expected) in TIMES {
-        let mut text = String::from_str(rt.alloc(), "> ")?;
-        write_time(second, &mut text)?;
+        let mut text = String::from_str(rt.alloc(), "> ").expect(&rt, "memory");
+        write_time(second, &mut text).expect(&rt, "write time");
         expect_eq_in(
             &rt,
             &second,
@@ -52,7 +51,6 @@ fn times_of_day(rt: HostRuntime) -> Result<(), Fail> {
             &Some(expected),
         );
     }
-    Ok(())
 }
 
 /// What a server did with a datagram, without whose claim it is.
@@ -223,21 +221,20 @@ const AFTER_OTHERS: [(Done, u64, &str); 5] = [
 ];
 
 #[test]
-fn a_line_says_how_many_were_left_out(rt: HostRuntime) -> Result<(), Fail> {
+fn a_line_says_how_many_were_left_out(rt: HostRuntime) {
     for (done, left_out, expected) in AFTER_OTHERS {
-        let claim = claim_of("FRED", Kind::Unique, 0x7F000002)?;
+        let claim = claim_of(&rt, "FRED", Kind::Unique, 0x7F000002);
         let entry = entry_of(68, false, outcome_of(done, claim));
-        expect_line(&rt, &entry, left_out, expected)?;
+        expect_line(&rt, &entry, left_out, expected);
     }
-    Ok(())
 }
 
-pub fn claim_of(name: &str, kind: Kind, addr: u32) -> Result<Claim, Fail> {
-    Ok(Claim {
-        name: named(name)?,
+pub fn claim_of(rt: &impl Abort, name: &str, kind: Kind, addr: u32) -> Claim {
+    Claim {
+        name: named(rt, name),
         kind,
         addr,
-    })
+    }
 }
 
 pub fn entry_of(count: usize, is_broadcast: bool, outcome: Outcome) -> Entry {
@@ -249,28 +246,25 @@ pub fn entry_of(count: usize, is_broadcast: bool, outcome: Outcome) -> Entry {
     }
 }
 
-fn expect_line<R: Abort + AllocGlobal>(
-    rt: &R,
-    entry: &Entry,
-    left_out: u64,
-    expected: &str,
-) -> Result<(), Fail> {
-    let mut text = String::from_str(rt.alloc(), "> ")?;
-    write_entry(THEN, entry, left_out, &mut text)?;
+fn expect_line<R: Abort + AllocGlobal>(rt: &R, entry: &Entry, left_out: u64, expected: &str) {
+    let mut text = String::from_str(rt.alloc(), "> ").expect(rt, "memory");
+    write_entry(THEN, entry, left_out, &mut text).expect(rt, "write entry");
     expect_eq(rt, &text.as_str().strip_prefix("> "), &Some(expected));
-    Ok(())
 }
 
-fn expect_lines<R: Abort + AllocGlobal>(rt: &R, rows: &[Claimed]) -> Result<(), Fail> {
+fn expect_lines<R: Abort + AllocGlobal>(rt: &R, rows: &[Claimed]) {
     for (done, name, kind, addr, expected) in rows {
-        let entry = entry_of(68, false, outcome_of(*done, claim_of(name, *kind, *addr)?));
-        expect_line(rt, &entry, 0, expected)?;
+        let entry = entry_of(
+            68,
+            false,
+            outcome_of(*done, claim_of(rt, name, *kind, *addr)),
+        );
+        expect_line(rt, &entry, 0, expected);
     }
-    Ok(())
 }
 
 #[test]
-fn a_line_for_each_outcome(rt: HostRuntime) -> Result<(), Fail> {
+fn a_line_for_each_outcome(rt: HostRuntime) {
     expect_lines(&rt, CLAIMED)
 }
 
@@ -321,13 +315,12 @@ const STRANGERS: [(Done, usize, bool, u64, &str); 6] = [
 ];
 
 #[test]
-fn a_line_for_what_is_no_request(rt: HostRuntime) -> Result<(), Fail> {
+fn a_line_for_what_is_no_request(rt: HostRuntime) {
     for (done, count, is_broadcast, left_out, expected) in STRANGERS {
-        let outcome = outcome_of(done, claim_of("FRED", Kind::Unique, 0)?);
+        let outcome = outcome_of(done, claim_of(&rt, "FRED", Kind::Unique, 0));
         let entry = entry_of(count, is_broadcast, outcome);
-        expect_line(&rt, &entry, left_out, expected)?;
+        expect_line(&rt, &entry, left_out, expected);
     }
-    Ok(())
 }
 
 /// Octets, what was done with them, and of which kind their line is without broadcasts and with them.
@@ -381,15 +374,14 @@ const KINDS: &[Kinds] = &[
 ];
 
 #[test]
-fn of_which_kind_a_line_is(rt: HostRuntime) -> Result<(), Fail> {
+fn of_which_kind_a_line_is(rt: HostRuntime) {
     for (octets, done, plain, wide) in KINDS {
-        let claim = claim_of("FRED", Kind::Unique, 0)?;
+        let claim = claim_of(&rt, "FRED", Kind::Unique, 0);
         let entry = Entry::of(FROM, *octets, outcome_of(*done, claim));
         expect_eq(&rt, &entry.count, &octets.len());
         expect_eq_in(&rt, octets, &entry.told_kind(false), plain);
         expect_eq_in(&rt, octets, &entry.told_kind(true), wide);
     }
-    Ok(())
 }
 
 /// The addresses of FRED's owner, and of its rival.
@@ -515,14 +507,15 @@ fn expect_handled<R: Abort + AllocGlobal>(
     server: &mut Server,
     reply: &mut ArrayVec<u8, 576>,
     (at, ip, words, name, addr, done): &Handled,
-) -> Result<(), Fail> {
+) {
     let from = Addr { ip: *ip, port: 137 };
-    let now = moment(*at)?;
-    let expected = outcome_of(*done, claim_of(name, Kind::Unique, *addr)?);
-    let given = octets(rt, words)?;
-    let outcome = server.handle(now, from, given.as_slice(), reply)?;
+    let now = Moment::new(*at).expect(rt, "a moment");
+    let expected = outcome_of(*done, claim_of(rt, name, Kind::Unique, *addr));
+    let given = octets(rt, words).expect(rt, "octets");
+    let outcome = server
+        .handle(now, from, given.as_slice(), reply)
+        .expect(rt, "handle");
     expect_eq_in(rt, words, &outcome, &expected);
-    Ok(())
 }
 
 fn expect_all_handled<R: Abort + AllocGlobal>(
@@ -530,23 +523,22 @@ fn expect_all_handled<R: Abort + AllocGlobal>(
     server: &mut Server,
     reply: &mut ArrayVec<u8, 576>,
     rows: &[Handled],
-) -> Result<(), Fail> {
+) {
     for row in rows {
-        expect_handled(rt, server, reply, row)?;
+        expect_handled(rt, server, reply, row);
     }
-    Ok(())
 }
 
 #[test]
-fn what_a_server_did(rt: HostRuntime) -> Result<(), Fail> {
-    let mut server = started(&rt, 1, 0)?;
-    expect_all_handled(&rt, &mut server, &mut ArrayVec::new(), HANDLED)?;
+fn what_a_server_did(rt: HostRuntime) {
+    let mut server = started(&rt, 1, 0).expect(&rt, "a server");
+    expect_all_handled(&rt, &mut server, &mut ArrayVec::new(), HANDLED);
     server.limit_clients(0);
     expect_all_handled(&rt, &mut server, &mut ArrayVec::new(), HANDLED_BY_A_LIMIT)
 }
 
-fn named(text: &str) -> Result<Name, Fail> {
-    Ok(parse_name(text.as_bytes()).ok_or("no name")?)
+fn named(rt: &impl Abort, text: &str) -> Name {
+    parse_name(text.as_bytes()).expect(rt, "a name")
 }
 
 /// When a line is asked for, in milliseconds, and how many were left out before it, where it may be printed.
@@ -574,40 +566,55 @@ const LIMITED: [(u64, Option<u64>); 18] = [
 ];
 
 #[test]
-fn ten_lines_in_a_second(rt: HostRuntime) -> Result<(), Fail> {
+fn ten_lines_in_a_second(rt: HostRuntime) {
     let mut limiter = Limiter::new();
     for (at, expected) in LIMITED {
-        expect_eq_in(&rt, &at, &limiter.take(moment(at)?), &expected);
+        expect_eq_in(
+            &rt,
+            &at,
+            &limiter.take(Moment::new(at).expect(&rt, "a moment")),
+            &expected,
+        );
     }
-    Ok(())
 }
 
 #[test]
-fn lines_of_each_kind_are_limited_by_themselves(rt: HostRuntime) -> Result<(), Fail> {
+fn lines_of_each_kind_are_limited_by_themselves(rt: HostRuntime) {
     let mut limiters = Limiters::new();
     for _ in 0..10 {
         expect_eq(
             &rt,
-            &limiters.take(LineKind::Granted, moment(5_000)?),
+            &limiters.take(
+                LineKind::Granted,
+                Moment::new(5_000).expect(&rt, "a moment"),
+            ),
             &Some(0),
         );
     }
     expect_eq(
         &rt,
-        &limiters.take(LineKind::Granted, moment(5_000)?),
+        &limiters.take(
+            LineKind::Granted,
+            Moment::new(5_000).expect(&rt, "a moment"),
+        ),
         &None,
     );
     expect_eq(
         &rt,
-        &limiters.take(LineKind::Refused, moment(5_000)?),
+        &limiters.take(
+            LineKind::Refused,
+            Moment::new(5_000).expect(&rt, "a moment"),
+        ),
         &Some(0),
     );
     expect_eq(
         &rt,
-        &limiters.take(LineKind::Granted, moment(6_000)?),
+        &limiters.take(
+            LineKind::Granted,
+            Moment::new(6_000).expect(&rt, "a moment"),
+        ),
         &Some(1),
     );
-    Ok(())
 }
 
 /// A kind, how many lines of it are asked for at 5,000 ms, and what is printed a second later of those that were left out.
@@ -662,11 +669,10 @@ const FLOODED: &[Flooded] = &[
 ];
 
 /// So many lines of a kind are asked for at a moment.
-fn ask(limiters: &mut Limiters, kind: LineKind, count: u32, at: u64) -> Result<(), Fail> {
+fn ask(rt: &impl Abort, limiters: &mut Limiters, kind: LineKind, count: u32, at: u64) {
     for _ in 0..count {
-        limiters.take(kind, moment(at)?);
+        limiters.take(kind, Moment::new(at).expect(rt, "a moment"));
     }
-    Ok(())
 }
 
 /// This is printed at a moment of what was left out.
@@ -675,54 +681,56 @@ fn expect_summary<R: Abort + AllocGlobal>(
     limiters: &mut Limiters,
     at: u64,
     expected: &str,
-) -> Result<(), Fail> {
-    let mut text = String::from_str(rt.alloc(), "> ")?;
-    write_summary(limiters, &dates()?, moment(at)?, &mut text)?;
+) {
+    let mut text = String::from_str(rt.alloc(), "> ").expect(rt, "memory");
+    write_summary(
+        limiters,
+        &dates(rt),
+        Moment::new(at).expect(rt, "a moment"),
+        &mut text,
+    )
+    .expect(rt, "write summary");
     expect_eq_in(rt, &at, &text.as_str().strip_prefix("> "), &Some(expected));
-    Ok(())
 }
 
-fn expect_flooded<R: Abort + AllocGlobal>(
-    rt: &R,
-    limiters: &mut Limiters,
-    rows: &[Flooded],
-) -> Result<(), Fail> {
-    expect_summary(rt, limiters, 5_000, "")?;
+fn expect_flooded<R: Abort + AllocGlobal>(rt: &R, limiters: &mut Limiters, rows: &[Flooded]) {
+    expect_summary(rt, limiters, 5_000, "");
     for (kind, count, _) in rows.iter().rev() {
-        ask(limiters, *kind, *count, 5_000)?;
+        ask(rt, limiters, *kind, *count, 5_000);
     }
-    expect_summary(rt, limiters, 5_999, "")?;
+    expect_summary(rt, limiters, 5_999, "");
     for (_, _, expected) in rows {
-        expect_summary(rt, limiters, 6_000, expected)?;
+        expect_summary(rt, limiters, 6_000, expected);
     }
     expect_summary(rt, limiters, 6_000, "")
 }
 
 #[test]
-fn what_was_left_out_of_each_kind_is_told_once(rt: HostRuntime) -> Result<(), Fail> {
+fn what_was_left_out_of_each_kind_is_told_once(rt: HostRuntime) {
     expect_flooded(&rt, &mut Limiters::new(), FLOODED)
 }
 
-fn expect_summary_is_a_line<R: Abort + AllocGlobal>(
-    rt: &R,
-    limiters: &mut Limiters,
-) -> Result<(), Fail> {
-    ask(limiters, LineKind::Foreign, 12, 5_000)?;
+fn expect_summary_is_a_line<R: Abort + AllocGlobal>(rt: &R, limiters: &mut Limiters) {
+    ask(rt, limiters, LineKind::Foreign, 12, 5_000);
     expect_summary(
         rt,
         limiters,
         6_000,
         "2026-11-24T23:59:54Z .. 2 more foreign\n",
-    )?;
+    );
     for _ in 0..9 {
         expect_eq(
             rt,
-            &limiters.take(LineKind::Foreign, moment(6_000)?),
+            &limiters.take(LineKind::Foreign, Moment::new(6_000).expect(rt, "a moment")),
             &Some(0),
         );
     }
-    expect_eq(rt, &limiters.take(LineKind::Foreign, moment(6_000)?), &None);
-    expect_summary(rt, limiters, 6_999, "")?;
+    expect_eq(
+        rt,
+        &limiters.take(LineKind::Foreign, Moment::new(6_000).expect(rt, "a moment")),
+        &None,
+    );
+    expect_summary(rt, limiters, 6_999, "");
     expect_summary(
         rt,
         limiters,
@@ -732,7 +740,7 @@ fn expect_summary_is_a_line<R: Abort + AllocGlobal>(
 }
 
 #[test]
-fn a_summary_is_one_of_the_ten_lines(rt: HostRuntime) -> Result<(), Fail> {
+fn a_summary_is_one_of_the_ten_lines(rt: HostRuntime) {
     expect_summary_is_a_line(&rt, &mut Limiters::new())
 }
 
@@ -747,7 +755,7 @@ const FIRSTS: [(&str, bool); 6] = [
 ];
 
 #[test]
-fn what_a_list_may_be_put_in_place_of(rt: HostRuntime) -> Result<(), Fail> {
+fn what_a_list_may_be_put_in_place_of(rt: HostRuntime) {
     for (first, expected) in FIRSTS {
         expect_eq_in(
             &rt,
@@ -756,15 +764,14 @@ fn what_a_list_may_be_put_in_place_of(rt: HostRuntime) -> Result<(), Fail> {
             &expected,
         );
     }
-    Ok(())
 }
 
 /// At the moment 10,000 ms it was 2026-11-24T23:59:58Z.
-fn dates() -> Result<Dates, Fail> {
-    Ok(Dates {
-        moment: moment(10_000)?,
-        time: moment(1_795_564_798_000)?,
-    })
+fn dates(rt: &impl Abort) -> Dates {
+    Dates {
+        moment: Moment::new(10_000).expect(rt, "a moment"),
+        time: Moment::new(1_795_564_798_000).expect(rt, "a moment"),
+    }
 }
 
 fn lease(addr: u32, kind: Kind, end: u64) -> Lease {
@@ -786,29 +793,29 @@ const LEASES: [(&str, u32, Kind, u64); 5] = [
     ),
 ];
 
-fn leases<R: AllocGlobal>(rt: &R) -> Result<Vec<(Name, Lease)>, Fail> {
+fn leases<R: Abort + AllocGlobal>(rt: &R) -> Vec<(Name, Lease)> {
     let mut rows = Vec::new(rt.alloc());
     for (name, addr, kind, end) in &LEASES {
-        rows.push((named(name)?, lease(*addr, *kind, *end)))?;
+        rows.push((named(rt, name), lease(*addr, *kind, *end)))
+            .expect(rt, "memory");
     }
-    Ok(rows)
+    rows
 }
 
-fn expect_list<R: Abort + AllocGlobal>(rt: &R, rows: &[(Name, Lease)]) -> Result<(), Fail> {
-    let (dates, now) = (dates()?, moment(11_000)?);
-    let mut text = String::from_str(rt.alloc(), "> ")?;
-    write_list(&dates, now, rows, &mut text)?;
+fn expect_list<R: Abort + AllocGlobal>(rt: &R, rows: &[(Name, Lease)]) {
+    let (dates, now) = (dates(rt), Moment::new(11_000).expect(rt, "a moment"));
+    let mut text = String::from_str(rt.alloc(), "> ").expect(rt, "memory");
+    write_list(&dates, now, rows, &mut text).expect(rt, "write list");
     expect_eq(
         rt,
         &text.as_str(),
         &"> # live leases of nbt nbns\nFRED#20 unique 127.0.0.2 2026-11-24T23:59:59Z\nTEAM#20 group 192.0.2.7 2026-11-25T00:00:00Z\nNODEB#20.LAB.TEST unique 0.0.0.0 2026-11-25T00:04:58Z\nFILER#00 unique 1.2.3.4 2026-11-24T23:59:59Z\n",
     );
-    Ok(())
 }
 
 #[test]
-fn the_list_of_live_leases(rt: HostRuntime) -> Result<(), Fail> {
-    expect_list(&rt, leases(&rt)?.as_slice())
+fn the_list_of_live_leases(rt: HostRuntime) {
+    expect_list(&rt, leases(&rt).as_slice())
 }
 
 /// A moment and the time of day at it, and whether that dates moments anew: where it is more than two seconds from what was thought.
@@ -822,31 +829,32 @@ const SEEN: [(u64, u64, bool); 6] = [
 ];
 
 #[test]
-fn a_clock_that_is_set_dates_moments_anew(rt: HostRuntime) -> Result<(), Fail> {
+fn a_clock_that_is_set_dates_moments_anew(rt: HostRuntime) {
     for (at, time, anew) in SEEN {
-        let mut followed = dates()?;
-        followed.follow(moment(at)?, moment(time)?);
+        let mut followed = dates(&rt);
+        followed.follow(
+            Moment::new(at).expect(&rt, "a moment"),
+            Moment::new(time).expect(&rt, "a moment"),
+        );
         let expected = if anew {
             Dates {
-                moment: moment(at)?,
-                time: moment(time)?,
+                moment: Moment::new(at).expect(&rt, "a moment"),
+                time: Moment::new(time).expect(&rt, "a moment"),
             }
         } else {
-            dates()?
+            dates(&rt)
         };
         expect_eq_in(&rt, &time, &followed, &expected);
     }
-    Ok(())
 }
 
 #[test]
-fn a_moment_before_1970_is_dated_to_it(rt: HostRuntime) -> Result<(), Fail> {
+fn a_moment_before_1970_is_dated_to_it(rt: HostRuntime) {
     let late = Dates {
-        moment: moment(10_000)?,
+        moment: Moment::new(10_000).expect(&rt, "a moment"),
         time: Moment::zero(),
     };
     expect_eq(&rt, &late.second_at(9_000), &0);
     expect_eq(&rt, &late.second_at(10_999), &0);
     expect_eq(&rt, &late.second_at(11_000), &1);
-    Ok(())
 }

@@ -1,16 +1,15 @@
 //! A log that can't be written for a while, and a list of leases beside which an earlier one was left.
 
 use super::expect::{expect, expect_eq, expect_eq_in};
+use nbt_lease::Moment;
 use nbt_log::{Dates, Entry};
 use nbt_name::Addr;
 use nbt_nbns::{Content, FilePlace, Logger, Place, Shown};
 use nbt_port::OwnReplies;
 use nbt_report::Health;
 use nbt_server::Outcome;
-use nbt_testing::moment;
 use std::io::{ErrorKind, Write};
 use std::process::Abort;
-use std::test::Fail;
 use std::{env, fs, io, process};
 
 /// What a writer does at each write of a line.
@@ -71,21 +70,21 @@ const ROWS: [(Does, bool, &str); 8] = [
     (Does::Fails(ErrorKind::StorageFull), false, FAILED),
 ];
 
-fn shown(at: u64) -> Result<Shown, Fail> {
+fn shown(rt: &impl Abort, at: u64) -> Shown {
     let from = Addr {
         ip: 0x7F00_0002,
         port: 137,
     };
-    Ok(Shown {
+    Shown {
         entry: Some(Entry::of(from, b"0", Outcome::NoMessage)),
-        at: moment(at)?,
+        at: Moment::new(at).expect(rt, "a moment"),
         health: Health {
             failures: 0,
             own: OwnReplies::NONE,
             syncs: 0,
             sync_milliseconds: 0,
         },
-    })
+    }
 }
 
 fn expect_rows<R: Abort + AllocGlobal>(
@@ -93,54 +92,56 @@ fn expect_rows<R: Abort + AllocGlobal>(
     logger: &mut Logger,
     writer: &mut Writer,
     rows: &[(Does, bool, &str)],
-) -> Result<(), Fail> {
+) {
     let dates = Dates {
-        moment: moment(0)?,
-        time: moment(0)?,
+        moment: Moment::new(0).expect(rt, "a moment"),
+        time: Moment::new(0).expect(rt, "a moment"),
     };
     for row in rows {
         let (does, well, said) = *row;
         writer.does = does;
         let mut errors = Vec::new(rt.alloc());
-        let logged = logger.log(&dates, &shown(0)?, writer, &mut errors);
+        let logged = logger.log(&dates, &shown(rt, 0), writer, &mut errors);
         expect_eq_in(rt, row, &logged, &well);
         expect_eq_in(rt, row, &errors.as_slice(), &said.as_bytes());
     }
-    Ok(())
 }
 
 #[test]
-fn a_log_that_can_not_be_written_for_a_while(rt: HostRuntime) -> Result<(), Fail> {
+fn a_log_that_can_not_be_written_for_a_while(rt: HostRuntime) {
     let mut logger = Logger::new(rt.alloc(), false);
     let mut writer = Writer {
         does: Does::Takes,
         text: Vec::new(rt.alloc()),
     };
-    expect_rows(&rt, &mut logger, &mut writer, &ROWS)?;
+    expect_rows(&rt, &mut logger, &mut writer, &ROWS);
     // The reader has whole lines.
     let text = writer.text.as_slice();
     expect(&rt, text.starts_with(LINE.as_bytes()));
     expect(&rt, text.ends_with(LINE.as_bytes()));
-    Ok(())
 }
 
 /// A new list that an earlier server left beside the list is in no one's way.
 #[test]
-fn a_new_list_that_was_left_is_replaced(rt: HostRuntime) -> Result<(), Fail> {
-    let folder = env::temp_dir(&rt)?;
-    let folder = folder.as_path().to_str().ok_or("no text")?;
+fn a_new_list_that_was_left_is_replaced(rt: HostRuntime) {
+    let folder = env::temp_dir(&rt).expect(&rt, "a folder for temporary files");
+    let folder = folder.as_path().to_str().expect(&rt, "a text");
     let id = process::id(rt.process());
-    let path = format!(in rt.alloc(); "{folder}/nbt-{id}-left")?;
-    let beside = format!(in rt.alloc(); "{path}.new")?;
+    let path = format!(in rt.alloc(); "{folder}/nbt-{id}-left").expect(&rt, "memory");
+    let beside = format!(in rt.alloc(); "{path}.new").expect(&rt, "memory");
     fs::write(
         &rt,
         beside.as_str(),
         "# live leases of nbt nbns\nlonger than the new one\n",
-    )?;
-    let mut place = FilePlace::new(&rt, rt.alloc(), Content::Leases, path.as_str())?;
-    place.replace("# live leases of nbt nbns\none\n")?;
-    let text = fs::read_to_string(&rt, path.as_str())?;
+    )
+    .expect(&rt, "written");
+    let mut place = FilePlace::new(&rt, rt.alloc(), Content::Leases, path.as_str()).expect(
+        &rt, "a place",
+    );
+    place
+        .replace("# live leases of nbt nbns\none\n")
+        .expect(&rt, "replaced");
+    let text = fs::read_to_string(&rt, path.as_str()).expect(&rt, "its text");
     expect_eq(&rt, &text.as_str(), &"# live leases of nbt nbns\none\n");
-    fs::remove_file(&rt, path.as_str())?;
-    Ok(())
+    fs::remove_file(&rt, path.as_str()).expect(&rt, "removed");
 }

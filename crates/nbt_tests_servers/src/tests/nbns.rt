@@ -4,7 +4,7 @@
 use super::expect::{expect, expect_eq, expect_eq_in, expect_in};
 use super::stage::{Scene, play_on};
 use nbt_front::{FixedNames, Front};
-use nbt_lease::Config;
+use nbt_lease::{Config, Moment};
 use nbt_log::Dates;
 use nbt_name::Addr;
 use nbt_nbns::{
@@ -15,13 +15,14 @@ use nbt_port::{Bind, Fault, MemoryClock, MemoryPort, Port, UdpPort};
 use nbt_report::{Origin, Tally};
 use nbt_server::Server;
 use nbt_testing::{
-    GRANTED, QUERY, REFRESH, REFUSED, REGISTRATION, RELEASE, RIVAL, Row, clock, config,
-    expect_sent, moment,
+    GRANTED, QUERY, REFRESH, REFUSED, REGISTRATION, RELEASE, RIVAL, Row, clock, config, sent_all,
 };
+use std::fs::File;
 use std::io::Write;
+use std::net::Net;
 use std::os::unix::fs::symlink;
 use std::process::Abort;
-use std::test::Fail;
+use std::rt::Files;
 use std::{env, fs, io, process, time};
 
 const FIRST: Addr = Addr {
@@ -61,45 +62,47 @@ struct Stage<'a> {
 }
 
 /// The moments that the clock tells: two of a turn in which something comes, one of another.
-fn moments_of<R: AllocGlobal>(rt: &R, turns: &[Turn]) -> Result<Vec<u64>, Fail> {
+fn moments_of<R: Abort + AllocGlobal>(rt: &R, turns: &[Turn]) -> Vec<u64> {
     let mut moments = Vec::new(rt.alloc());
     for (at, _, (_, words)) in turns {
         if *words != "" {
-            moments.push(*at)?;
+            moments.push(*at).expect(rt, "memory");
         }
-        moments.push(*at)?;
+        moments.push(*at).expect(rt, "memory");
     }
-    Ok(moments)
+    moments
 }
 
 /// The times of day that its clock tells, one a turn.
-fn times_of<R: AllocGlobal>(rt: &R, turns: &[Turn]) -> Result<Vec<u64>, Fail> {
+fn times_of<R: Abort + AllocGlobal>(rt: &R, turns: &[Turn]) -> Vec<u64> {
     let mut times = Vec::new(rt.alloc());
     for (at, set, _) in turns {
-        times.push(DAY.saturating_add(*at).saturating_add(*set))?;
+        times
+            .push(DAY.saturating_add(*at).saturating_add(*set))
+            .expect(rt, "memory");
     }
-    Ok(times)
+    times
 }
 
-fn rows_of<R: AllocGlobal>(rt: &R, turns: &[Turn]) -> Result<Vec<Row>, Fail> {
+fn rows_of<R: Abort + AllocGlobal>(rt: &R, turns: &[Turn]) -> Vec<Row> {
     let mut rows = Vec::new(rt.alloc());
     for (_, _, row) in turns {
-        rows.push(*row)?;
+        rows.push(*row).expect(rt, "memory");
     }
-    Ok(rows)
+    rows
 }
 
-fn journal_of<R: AllocGlobal>(
+fn journal_of<R: Abort + AllocGlobal>(
     rt: &R,
     turns: &[Turn],
     logs: bool,
     lists: bool,
-) -> Result<Journal<MemoryClock, MemoryPlace>, Fail> {
+) -> Journal<MemoryClock, MemoryPlace> {
     let dates = Dates {
-        moment: moment(0)?,
-        time: moment(DAY)?,
+        moment: Moment::new(0).expect(rt, "a moment"),
+        time: Moment::new(DAY).expect(rt, "a moment"),
     };
-    let day = clock(rt, times_of(rt, turns)?.as_slice())?;
+    let day = clock(rt, times_of(rt, turns).as_slice()).expect(rt, "a clock");
     let log = if logs {
         Some(Logger::new(rt.alloc(), false))
     } else {
@@ -110,7 +113,7 @@ fn journal_of<R: AllocGlobal>(
     } else {
         None
     };
-    Ok(Journal {
+    Journal {
         dates,
         day,
         log,
@@ -122,7 +125,7 @@ fn journal_of<R: AllocGlobal>(
             since: DAY / 1_000,
             speaks: 60_000,
         },
-    })
+    }
 }
 
 /// Goes on up to a moment, and writes what it prints and what it says of errors.
@@ -132,10 +135,10 @@ fn watch<R: Abort + time::Clock, W: Write>(
     until: u64,
     printed: &mut W,
     errors: &mut Vec<u8>,
-) -> Result<(), Fail> {
+) {
     expect(rt, stage.port.failures() <= 1 << 61);
-    let until = Some(moment(until)?);
-    Ok(watch_on(
+    let until = Some(Moment::new(until).expect(rt, "a moment"));
+    watch_on(
         stage.port,
         stage.clock,
         stage.server,
@@ -144,7 +147,8 @@ fn watch<R: Abort + time::Clock, W: Write>(
         rt,
         printed,
         errors,
-    )?)
+    )
+    .expect(rt, "watch on")
 }
 
 /// Goes on up to a moment. Returns what is printed, and what is said of errors.
@@ -152,33 +156,24 @@ fn go_on<R: Abort + AllocGlobal + time::Clock>(
     rt: &R,
     stage: &mut Stage,
     until: u64,
-) -> Result<(Vec<u8>, Vec<u8>), Fail> {
+) -> (Vec<u8>, Vec<u8>) {
     let mut printed = Vec::new(rt.alloc());
     let mut errors = Vec::new(rt.alloc());
-    watch(rt, stage, until, &mut printed, &mut errors)?;
-    Ok((printed, errors))
+    watch(rt, stage, until, &mut printed, &mut errors);
+    (printed, errors)
 }
 
 /// The place was given these lists, in order.
-fn expect_lists<R: Abort>(
-    rt: &R,
-    journal: &Journal<MemoryClock, MemoryPlace>,
-    lists: &[&str],
-) -> Result<(), Fail> {
-    let keeper = journal.leases.as_ref().ok_or("no list")?;
+fn expect_lists<R: Abort>(rt: &R, journal: &Journal<MemoryClock, MemoryPlace>, lists: &[&str]) {
+    let keeper = journal.leases.as_ref().expect(rt, "a list");
     expect_eq(rt, &keeper.place().texts().len(), &lists.len());
     for (got, expected) in keeper.place().texts().iter().zip(lists) {
         expect_eq(rt, &got.as_str(), &*expected);
     }
-    Ok(())
 }
 
-fn expect_watched<R: Abort + AllocGlobal + time::Clock>(
-    rt: &R,
-    row: &Watched,
-    stage: &mut Stage,
-) -> Result<(), Fail> {
-    let (printed, errors) = go_on(rt, stage, row.until)?;
+fn expect_watched<R: Abort + AllocGlobal + time::Clock>(rt: &R, row: &Watched, stage: &mut Stage) {
+    let (printed, errors) = go_on(rt, stage, row.until);
     expect_eq_in(
         rt,
         &row.printed,
@@ -187,9 +182,9 @@ fn expect_watched<R: Abort + AllocGlobal + time::Clock>(
     );
     expect(rt, errors.is_empty());
     if !row.lists.is_empty() {
-        expect_lists(rt, stage.journal, row.lists)?;
+        expect_lists(rt, stage.journal, row.lists);
     }
-    expect_sent(rt, stage.port, row.sent)
+    sent_all(rt, stage.port, row.sent).expect(rt, "sent")
 }
 
 const RELEASED: &str = "0002 b400 reply FRED NB 0s unique 127.0.0.2";
@@ -426,17 +421,13 @@ fn expect_said<R: Abort + AllocGlobal + time::Clock>(
     until: u64,
     printed: &str,
     errors: &str,
-) -> Result<(), Fail> {
-    let (got, said) = go_on(rt, stage, until)?;
+) {
+    let (got, said) = go_on(rt, stage, until);
     expect_eq(rt, &got.as_slice(), &printed.as_bytes());
     expect_eq(rt, &said.as_slice(), &errors.as_bytes());
-    Ok(())
 }
 
-fn see_failed_port<R: Abort + AllocGlobal + time::Clock>(
-    rt: &R,
-    stage: &mut Stage,
-) -> Result<(), Fail> {
+fn see_failed_port<R: Abort + AllocGlobal + time::Clock>(rt: &R, stage: &mut Stage) {
     stage.port.fail_after(0);
     expect_said(
         rt,
@@ -444,8 +435,8 @@ fn see_failed_port<R: Abort + AllocGlobal + time::Clock>(
         60_000,
         "2026-11-24T09:12:03Z granted FRED#20 127.0.0.2 unique 60 s\n",
         "nbt: the port failed; going on\nnbt: the port is well again after 1 failures in a row\n",
-    )?;
-    expect_sent(rt, stage.port, &[(FIRST, GRANTED)])
+    );
+    sent_all(rt, stage.port, &[(FIRST, GRANTED)]).expect(rt, "sent")
 }
 
 /// Turns of a server whose place refuses the first two lists.
@@ -467,38 +458,32 @@ fn keep_refused<R: AllocGlobal>(
     journal.leases = Some(Keeper::new(rt.alloc(), place));
 }
 
-fn see_refused_lists<R: Abort + AllocGlobal + time::Clock>(
-    rt: &R,
-    stage: &mut Stage,
-) -> Result<(), Fail> {
+fn see_refused_lists<R: Abort + AllocGlobal + time::Clock>(rt: &R, stage: &mut Stage) {
     keep_refused(rt, stage.journal, 2);
     let said = "nbt: the list of leases can't be written: the place is full\n";
-    expect_said(rt, stage, 61_500, "", said)?;
-    expect_lists(rt, stage.journal, &[])?;
+    expect_said(rt, stage, 61_500, "", said);
+    expect_lists(rt, stage.journal, &[]);
     expect_said(
         rt,
         stage,
         62_000,
         "",
         "nbt: the list of leases is written again\n",
-    )?;
+    );
     let list = "# live leases of nbt nbns\nFRED#20 unique 127.0.0.2 2026-11-24T09:13:03Z\n";
     expect_lists(rt, stage.journal, &[list])
 }
 
-fn see_full_log<R: Abort + AllocGlobal + time::Clock>(
-    rt: &R,
-    stage: &mut Stage,
-) -> Result<(), Fail> {
+fn see_full_log<R: Abort + AllocGlobal + time::Clock>(rt: &R, stage: &mut Stage) {
     let mut room = [0; 8];
     let mut errors = Vec::new(rt.alloc());
-    watch(rt, stage, 64_000, &mut &mut room[..], &mut errors)?;
+    watch(rt, stage, 64_000, &mut &mut room[..], &mut errors);
     expect_eq(
         rt,
         &errors.as_slice(),
         &b"nbt: the log can't be written: failed to write whole buffer\n".as_slice(),
     );
-    expect_sent(rt, stage.port, ALL_SENT)
+    sent_all(rt, stage.port, ALL_SENT).expect(rt, "sent")
 }
 
 /// A writer that counts what was written, and what of it was flushed.
@@ -562,18 +547,17 @@ const SENT_TO_A_PIPE: [(usize, &str, &str); 7] = [
     ),
 ];
 
-fn see_pipe<R: Abort>(rt: &R, outbox: &mut Outbox, pipe: &mut Pipe) -> Result<(), Fail> {
+fn see_pipe<R: Abort>(rt: &R, outbox: &mut Outbox, pipe: &mut Pipe) {
     for (room, line, expected) in SENT_TO_A_PIPE {
         pipe.room = room;
-        outbox.send(line, pipe)?;
+        outbox.send(line, pipe).expect(rt, "sent");
         expect_eq_in(rt, &line, &pipe.text.as_slice(), &expected.as_bytes());
     }
     expect(rt, outbox.is_empty());
-    Ok(())
 }
 
 #[test]
-fn a_slow_reader_of_the_log_gets_whole_lines(rt: HostRuntime) -> Result<(), Fail> {
+fn a_slow_reader_of_the_log_gets_whole_lines(rt: HostRuntime) {
     let mut pipe = Pipe {
         room: 0,
         text: Vec::new(rt.alloc()),
@@ -588,26 +572,21 @@ const BLANK: Paper = Paper {
 };
 
 #[test]
-fn the_first_line_is_flushed(rt: HostRuntime) -> Result<(), Fail> {
-    let arguments = arguments(&rt, 0, false)?;
+fn the_first_line_is_flushed(rt: HostRuntime) {
+    let arguments = arguments(&rt, 0, false);
     let mut paper = BLANK;
     let mut errors = Vec::new(rt.alloc());
-    run_nbns(&rt, rt.alloc(), &arguments, &mut paper, &mut errors)?;
+    run_nbns(&rt, rt.alloc(), &arguments, &mut paper, &mut errors).expect(&rt, "run nbns");
     expect(&rt, paper.written > 0);
     expect_eq(&rt, &paper.flushed, &paper.written);
-    Ok(())
 }
 
-fn see_flushed<R: Abort + AllocGlobal + time::Clock>(
-    rt: &R,
-    stage: &mut Stage,
-) -> Result<(), Fail> {
+fn see_flushed<R: Abort + AllocGlobal + time::Clock>(rt: &R, stage: &mut Stage) {
     let mut paper = BLANK;
     let mut errors = Vec::new(rt.alloc());
-    watch(rt, stage, 60_000, &mut paper, &mut errors)?;
+    watch(rt, stage, 60_000, &mut paper, &mut errors);
     expect_eq(rt, &paper.written, &59);
     expect_eq(rt, &paper.flushed, &59);
-    Ok(())
 }
 
 /// The journal keeps hosts and statistics too, in places that refuse the first text of each where that is wanted.
@@ -625,22 +604,17 @@ fn keep_reports<R: AllocGlobal>(
 }
 
 /// The texts that a place was given.
-fn texts_of(kept: &Option<Keeper<MemoryPlace>>) -> Result<&[String], Fail> {
-    Ok(kept.as_ref().ok_or("not kept")?.place().texts())
+fn texts_of<'a>(rt: &impl Abort, kept: &'a Option<Keeper<MemoryPlace>>) -> &'a [String] {
+    kept.as_ref().expect(rt, "a kept file").place().texts()
 }
 
 /// The place of the hosts was given these texts, in order.
-fn expect_hosts<R: Abort>(
-    rt: &R,
-    journal: &Journal<MemoryClock, MemoryPlace>,
-    hosts: &[&str],
-) -> Result<(), Fail> {
-    let texts = texts_of(&journal.hosts)?;
+fn expect_hosts<R: Abort>(rt: &R, journal: &Journal<MemoryClock, MemoryPlace>, hosts: &[&str]) {
+    let texts = texts_of(rt, &journal.hosts);
     expect_eq(rt, &texts.len(), &hosts.len());
     for (got, expected) in texts.iter().zip(hosts) {
         expect_eq(rt, &got.as_str(), &*expected);
     }
-    Ok(())
 }
 
 /// The place of the statistics was given so many texts, and the last has each of these lines.
@@ -649,15 +623,14 @@ fn expect_stats<R: Abort>(
     journal: &Journal<MemoryClock, MemoryPlace>,
     count: usize,
     lines: &[&str],
-) -> Result<(), Fail> {
-    let texts = texts_of(&journal.stats)?;
+) {
+    let texts = texts_of(rt, &journal.stats);
     expect_eq(rt, &texts.len(), &count);
-    let last = texts.last().ok_or("no statistics")?;
+    let last = texts.last().expect(rt, "statistics");
     for line in lines {
         let is_there = last.as_str().split('\n').any(|one| one == *line);
         expect_eq_in(rt, line, &is_there, &true);
     }
-    Ok(())
 }
 
 /// What the statistics have after a datagram of each outcome, four seconds after the first.
@@ -697,14 +670,11 @@ const NO_HOSTS: &str = "# hosts of nbt nbns\n";
 const FRED: &str = "# hosts of nbt nbns\n127.0.0.2 FRED\n";
 
 /// Of the nine turns five are a second after the last look; the hosts change in two of them.
-fn see_reports<R: Abort + AllocGlobal + time::Clock>(
-    rt: &R,
-    stage: &mut Stage,
-) -> Result<(), Fail> {
+fn see_reports<R: Abort + AllocGlobal + time::Clock>(rt: &R, stage: &mut Stage) {
     keep_reports(rt, stage.journal, 0);
-    let (_, errors) = go_on(rt, stage, 62_100)?;
+    let (_, errors) = go_on(rt, stage, 62_100);
     expect(rt, errors.is_empty());
-    expect_hosts(rt, stage.journal, &[FRED])?;
+    expect_hosts(rt, stage.journal, &[FRED]);
     let lines = [
         "nbt_nbns_leases{kind=\"unique\"} 1",
         "nbt_nbns_rows_free 4095",
@@ -712,42 +682,36 @@ fn see_reports<R: Abort + AllocGlobal + time::Clock>(
         "nbt_nbns_lease_greatest_left_seconds 59.000",
         "nbt_nbns_written_timestamp_seconds 1795511525",
     ];
-    expect_stats(rt, stage.journal, 3, &lines)?;
-    let (_, errors) = go_on(rt, stage, 64_000)?;
+    expect_stats(rt, stage.journal, 3, &lines);
+    let (_, errors) = go_on(rt, stage, 64_000);
     expect(rt, errors.is_empty());
-    expect_hosts(rt, stage.journal, &[FRED, NO_HOSTS])?;
+    expect_hosts(rt, stage.journal, &[FRED, NO_HOSTS]);
     expect_stats(rt, stage.journal, 5, COUNTED)
 }
 
 /// Each place refuses its first text: that is said, and a second later that it is well again.
-fn see_refused_reports<R: Abort + AllocGlobal + time::Clock>(
-    rt: &R,
-    stage: &mut Stage,
-) -> Result<(), Fail> {
+fn see_refused_reports<R: Abort + AllocGlobal + time::Clock>(rt: &R, stage: &mut Stage) {
     keep_reports(rt, stage.journal, 1);
     let said =
         "nbt: the list of leases can't be written: the place is full\nnbt: the list of leases can't be written: the place is full\n";
-    expect_said(rt, stage, 60_500, "", said)?;
-    expect_hosts(rt, stage.journal, &[])?;
+    expect_said(rt, stage, 60_500, "", said);
+    expect_hosts(rt, stage.journal, &[]);
     let said =
         "nbt: the list of leases is written again\nnbt: the list of leases is written again\n";
-    expect_said(rt, stage, 61_000, "", said)?;
-    expect_hosts(rt, stage.journal, &[FRED])?;
+    expect_said(rt, stage, 61_000, "", said);
+    expect_hosts(rt, stage.journal, &[FRED]);
     let lines = ["nbt_nbns_requests_total{kind=\"registration\",result=\"renewed\"} 1"];
     expect_stats(rt, stage.journal, 1, &lines)
 }
 
 /// A call of the port fails, and later one more.
-fn see_failures<R: Abort + AllocGlobal + time::Clock>(
-    rt: &R,
-    stage: &mut Stage,
-) -> Result<(), Fail> {
+fn see_failures<R: Abort + AllocGlobal + time::Clock>(rt: &R, stage: &mut Stage) {
     keep_reports(rt, stage.journal, 0);
     stage.port.fail_after(0);
-    go_on(rt, stage, 60_000)?;
-    expect_stats(rt, stage.journal, 1, &["nbt_nbns_port_failures_total 1"])?;
+    go_on(rt, stage, 60_000);
+    expect_stats(rt, stage.journal, 1, &["nbt_nbns_port_failures_total 1"]);
     stage.port.fail_after(1);
-    go_on(rt, stage, 62_000)?;
+    go_on(rt, stage, 62_000);
     expect_stats(rt, stage.journal, 3, &["nbt_nbns_port_failures_total 2"])
 }
 
@@ -757,14 +721,14 @@ fn see_dropped_lines<R: Abort + AllocGlobal + time::Clock>(
     rt: &R,
     stage: &mut Stage,
     pipe: &mut Pipe,
-) -> Result<(), Fail> {
+) {
     keep_reports(rt, stage.journal, 0);
     let mut errors = Vec::new(rt.alloc());
-    watch(rt, stage, 62_000, pipe, &mut errors)?;
+    watch(rt, stage, 62_000, pipe, &mut errors);
     let lines = ["nbt_nbns_log_lines_dropped_total 2"];
-    expect_stats(rt, stage.journal, 3, &lines)?;
+    expect_stats(rt, stage.journal, 3, &lines);
     pipe.room = 1_000;
-    watch(rt, stage, 64_000, pipe, &mut errors)?;
+    watch(rt, stage, 64_000, pipe, &mut errors);
     expect_stats(rt, stage.journal, 5, &lines)
 }
 
@@ -792,11 +756,7 @@ enum Seen {
     DroppedLines,
 }
 
-fn see<R: Abort + AllocGlobal + time::Clock>(
-    rt: &R,
-    stage: &mut Stage,
-    seen: &Seen,
-) -> Result<(), Fail> {
+fn see<R: Abort + AllocGlobal + time::Clock>(rt: &R, stage: &mut Stage, seen: &Seen) {
     match seen {
         Seen::Row(row) => expect_watched(rt, *row, stage),
         Seen::FailedPort => see_failed_port(rt, stage),
@@ -836,8 +796,8 @@ impl Scene for Watching {
         port: &mut MemoryPort,
         clock: &mut MemoryClock,
         server: &mut Server,
-    ) -> Result<(), Fail> {
-        let mut journal = journal_of(rt, self.turns, self.logs, self.lists)?;
+    ) {
+        let mut journal = journal_of(rt, self.turns, self.logs, self.lists);
         let mut stage = Stage {
             port,
             clock,
@@ -848,16 +808,13 @@ impl Scene for Watching {
     }
 }
 
-fn play<R: Abort + AllocGlobal + time::Clock>(rt: &R, watching: &Watching) -> Result<(), Fail> {
-    let moments = moments_of(rt, watching.turns)?;
-    let rows = rows_of(rt, watching.turns)?;
+fn play<R: Abort + AllocGlobal + time::Clock>(rt: &R, watching: &Watching) {
+    let moments = moments_of(rt, watching.turns);
+    let rows = rows_of(rt, watching.turns);
     play_on(rt, rows.as_slice(), moments.as_slice(), watching)
 }
 
-fn play_watched<R: Abort + AllocGlobal + time::Clock>(
-    rt: &R,
-    rows: &'static [Watched],
-) -> Result<(), Fail> {
+fn play_watched<R: Abort + AllocGlobal + time::Clock>(rt: &R, rows: &'static [Watched]) {
     for row in rows {
         let watching = Watching {
             turns: row.turns,
@@ -865,9 +822,8 @@ fn play_watched<R: Abort + AllocGlobal + time::Clock>(
             lists: !row.lists.is_empty(),
             seen: Seen::Row(row),
         };
-        play(rt, &watching)?;
+        play(rt, &watching);
     }
-    Ok(())
 }
 
 const TEAM: &str = "0001 2900 two-parts TEAM NB again NB 60s unique 127.0.0.2";
@@ -959,73 +915,77 @@ const OTHERS: &[Watching] = &[
     },
 ];
 
-fn play_others<R: Abort + AllocGlobal + time::Clock>(
-    rt: &R,
-    rows: &[Watching],
-) -> Result<(), Fail> {
+fn play_others<R: Abort + AllocGlobal + time::Clock>(rt: &R, rows: &[Watching]) {
     for watching in rows {
-        play(rt, watching)?;
+        play(rt, watching);
     }
-    Ok(())
 }
 
 #[test]
-fn watched_servers(rt: HostRuntime) -> Result<(), Fail> {
-    play_others(&rt, OTHERS)?;
+fn watched_servers(rt: HostRuntime) {
+    play_others(&rt, OTHERS);
     play_watched(&rt, WATCHED)
 }
 
-fn see_texts<R: Abort>(rt: &R, place: &mut MemoryPlace) -> Result<(), Fail> {
-    place.replace("one")?;
+fn see_texts<R: Abort>(rt: &R, place: &mut MemoryPlace) {
+    place.replace("one").expect(rt, "replaced");
     place.refuse(1);
     expect(rt, place.replace("two").is_err());
-    place.replace("three")?;
+    place.replace("three").expect(rt, "replaced");
     expect(rt, place.texts().len() == 2);
     expect_eq(rt, &place.texts()[0].as_str(), &"one");
     expect_eq(rt, &place.texts()[1].as_str(), &"three");
-    Ok(())
 }
 
 #[test]
-fn a_place_in_memory_keeps_each_text(rt: HostRuntime) -> Result<(), Fail> {
+fn a_place_in_memory_keeps_each_text(rt: HostRuntime) {
     see_texts(&rt, &mut MemoryPlace::new(rt.alloc()))
 }
 
 /// A path in the folder for temporary files that no other test has.
-fn path_for(rt: &HostRuntime, name: &str) -> Result<String, Fail> {
-    let folder = env::temp_dir(rt)?;
-    let folder = folder.as_path().to_str().ok_or("no text")?;
+fn path_for(rt: &HostRuntime, name: &str) -> Option<String> {
+    let folder = env::temp_dir(rt).ok()?;
+    let folder = folder.as_path().to_str()?;
     let id = process::id(rt.process());
-    Ok(format!(in rt.alloc(); "{folder}/nbt-{id}-{name}")?)
+    format!(in rt.alloc(); "{folder}/nbt-{id}-{name}").ok()
 }
 
 /// Replaces a file's text. Returns the one that it has then, and the one that is read by who had it open before.
-fn replaced(rt: &HostRuntime, path: &str) -> Result<(String, String), Fail> {
-    let mut place = FilePlace::new(rt, rt.alloc(), Content::Leases, path)?;
-    place.replace("# live leases of nbt nbns\none\n")?;
-    let before = fs::open(rt, path)?;
-    place.replace("# live leases of nbt nbns\ntwo\n")?;
-    let text = fs::read_to_string(rt, path)?;
-    Ok((text, io::read_to_string(rt.alloc(), before)?))
+fn replaced<R: Abort + AllocGlobal + Files<File = File>>(rt: &R, path: &str) -> (String, String) {
+    let mut place = FilePlace::new(rt, rt.alloc(), Content::Leases, path).expect(rt, "a place");
+    place
+        .replace("# live leases of nbt nbns\none\n")
+        .expect(rt, "replaced");
+    let before = fs::open(rt, path).expect(rt, "open");
+    place
+        .replace("# live leases of nbt nbns\ntwo\n")
+        .expect(rt, "replaced");
+    let text = fs::read_to_string(rt, path).expect(rt, "its text");
+    (
+        text,
+        io::read_to_string(rt.alloc(), before).expect(rt, "its text"),
+    )
 }
 
 /// Whether there is a file of the path with this behind it.
-fn is_there(rt: &HostRuntime, path: &str, end: &str) -> Result<bool, Fail> {
-    let path = format!(in rt.alloc(); "{path}{end}")?;
-    Ok(fs::open(rt, path.as_str()).is_ok())
+fn is_there<R: Abort + AllocGlobal + Files>(rt: &R, path: &str, end: &str) -> bool {
+    let path = format!(in rt.alloc(); "{path}{end}").expect(rt, "memory");
+    fs::open(rt, path.as_str()).is_ok()
 }
 
 /// Whether a file of the path with this behind it can have a text.
-fn can_be_replaced(rt: &HostRuntime, path: &str, end: &str) -> Result<bool, Fail> {
-    let path = format!(in rt.alloc(); "{path}{end}")?;
-    let mut place = FilePlace::new(rt, rt.alloc(), Content::Leases, path.as_str())?;
-    Ok(place.replace("one\n").is_ok())
+fn can_be_replaced<R: Abort + AllocGlobal + Files>(rt: &R, path: &str, end: &str) -> bool {
+    let path = format!(in rt.alloc(); "{path}{end}").expect(rt, "memory");
+    let mut place = FilePlace::new(rt, rt.alloc(), Content::Leases, path.as_str()).expect(
+        rt, "a place",
+    );
+    place.replace("one\n").is_ok()
 }
 
 #[test]
-fn a_file_has_one_list_or_the_other(rt: HostRuntime) -> Result<(), Fail> {
-    let path = path_for(&rt, "one-or-the-other")?;
-    let (text, before) = replaced(&rt, path.as_str())?;
+fn a_file_has_one_list_or_the_other(rt: HostRuntime) {
+    let path = path_for(&rt, "one-or-the-other").expect(&rt, "a path");
+    let (text, before) = replaced(&rt, path.as_str());
     expect_eq(
         &rt,
         &(text.as_str(), before.as_str()),
@@ -1035,10 +995,9 @@ fn a_file_has_one_list_or_the_other(rt: HostRuntime) -> Result<(), Fail> {
         ),
     );
     // The new file has become the old one.
-    expect(&rt, !is_there(&rt, path.as_str(), ".new")?);
-    fs::remove_file(&rt, path.as_str())?;
-    expect(&rt, !can_be_replaced(&rt, path.as_str(), "/nowhere")?);
-    Ok(())
+    expect(&rt, !is_there(&rt, path.as_str(), ".new"));
+    fs::remove_file(&rt, path.as_str()).expect(&rt, "removed");
+    expect(&rt, !can_be_replaced(&rt, path.as_str(), "/nowhere"));
 }
 
 /// Where a server over this machine is.
@@ -1050,16 +1009,16 @@ fn here(port: u16) -> Addr {
 }
 
 /// A front without networks and names.
-fn open_front(rt: &HostRuntime) -> Result<Front, Fail> {
+fn open_front<R: Abort + AllocGlobal>(rt: &R) -> Front {
     let none = FixedNames::none(rt.alloc());
-    Ok(Front::new(Vec::new(rt.alloc()), none, config(16)?))
+    Front::new(Vec::new(rt.alloc()), none, config(16).expect(rt, "limits"))
 }
 
 /// A server over this machine, at a port that no other test has, which ends after its first turn.
-fn arguments(rt: &HostRuntime, port: u16, strict: bool) -> Result<NbnsArguments, Fail> {
-    Ok(NbnsArguments {
-        bind: Bind::To(vec![in rt.alloc(); here(port)]?),
-        config: config(16)?,
+fn arguments<R: Abort + AllocGlobal>(rt: &R, port: u16, strict: bool) -> NbnsArguments {
+    NbnsArguments {
+        bind: Bind::To(vec![in rt.alloc(); here(port)].expect(rt, "memory")),
+        config: config(16).expect(rt, "limits"),
         time: Some(0),
         log: true,
         broadcasts: false,
@@ -1068,36 +1027,39 @@ fn arguments(rt: &HostRuntime, port: u16, strict: bool) -> Result<NbnsArguments,
         stats: None,
         strict,
         rows_per_client: 64,
-        front: open_front(rt)?,
-    })
+        front: open_front(rt),
+    }
 }
 
 /// The same, with its list of leases in the file of this path.
-fn arguments_with_leases(
-    rt: &HostRuntime,
+fn arguments_with_leases<R: Abort + AllocGlobal>(
+    rt: &R,
     port: u16,
     strict: bool,
     path: &str,
-) -> Result<NbnsArguments, Fail> {
-    let mut arguments = arguments(rt, port, strict)?;
-    arguments.leases = Some(String::from_str(rt.alloc(), path)?);
-    Ok(arguments)
+) -> NbnsArguments {
+    let mut arguments = arguments(rt, port, strict);
+    arguments.leases = Some(String::from_str(rt.alloc(), path).expect(rt, "memory"));
+    arguments
 }
 
 /// The same, with what it keeps in the file of this path.
-fn arguments_with(rt: &HostRuntime, content: Content, path: &str) -> Result<NbnsArguments, Fail> {
-    let mut arguments = arguments(rt, 0, false)?;
-    let path = Some(String::from_str(rt.alloc(), path)?);
+fn arguments_with<R: Abort + AllocGlobal>(rt: &R, content: Content, path: &str) -> NbnsArguments {
+    let mut arguments = arguments(rt, 0, false);
+    let path = Some(String::from_str(rt.alloc(), path).expect(rt, "memory"));
     match content {
         Content::Leases => arguments.leases = path,
         Content::Hosts => arguments.hosts = path,
         Content::Stats => arguments.stats = path,
     }
-    Ok(arguments)
+    arguments
 }
 
 /// Runs a server. Returns how it ended, what it printed, and what it said of errors.
-fn run(rt: &HostRuntime, arguments: &NbnsArguments) -> (Result<(), Fault>, Vec<u8>, Vec<u8>) {
+fn run<R: AllocGlobal + Net + time::Clock + Files>(
+    rt: &R,
+    arguments: &NbnsArguments,
+) -> (Result<(), Fault>, Vec<u8>, Vec<u8>) {
     let mut printed = Vec::new(rt.alloc());
     let mut errors = Vec::new(rt.alloc());
     let ended = run_nbns(rt, rt.alloc(), arguments, &mut printed, &mut errors);
@@ -1105,118 +1067,130 @@ fn run(rt: &HostRuntime, arguments: &NbnsArguments) -> (Result<(), Fault>, Vec<u
 }
 
 /// The first line has a time of day, which no test can foresee.
-fn expect_begin<R: Abort>(rt: &R, printed: &[u8], before: &[u8]) -> Result<(), Fail> {
+fn expect_begin<R: Abort>(rt: &R, printed: &[u8], before: &[u8]) {
     expect_eq(
         rt,
-        &printed.strip_prefix(before).ok_or("another line")?.len(),
+        &printed
+            .strip_prefix(before)
+            .expect(rt, "another line")
+            .len(),
         &21,
     );
-    Ok(())
 }
 
 #[test]
-fn a_server_over_this_machine(rt: HostRuntime) -> Result<(), Fail> {
-    let path = path_for(&rt, "leases")?;
+fn a_server_over_this_machine(rt: HostRuntime) {
+    let path = path_for(&rt, "leases").expect(&rt, "a path");
     for strict in [false, true] {
-        let arguments = arguments_with_leases(&rt, 20_171, strict, path.as_str())?;
+        let arguments = arguments_with_leases(&rt, 20_171, strict, path.as_str());
         let (ended, printed, errors) = run(&rt, &arguments);
         expect(&rt, ended.is_ok() && errors.is_empty());
         let before = b"serving 127.42.23.3:20171, silent for 60 s until ";
-        expect_begin(&rt, printed.as_slice(), before)?;
+        expect_begin(&rt, printed.as_slice(), before);
         expect_eq(
             &rt,
-            &fs::read_to_string(&rt, path.as_str())?.as_str(),
+            &fs::read_to_string(&rt, path.as_str())
+                .expect(&rt, "its text")
+                .as_str(),
             &"# live leases of nbt nbns\n",
         );
-        fs::remove_file(&rt, path.as_str())?;
+        fs::remove_file(&rt, path.as_str()).expect(&rt, "removed");
     }
-    Ok(())
 }
 
 #[test]
-fn a_server_tells_the_port_that_it_got(rt: HostRuntime) -> Result<(), Fail> {
-    let (ended, printed, _) = run(&rt, &arguments(&rt, 0, false)?);
+fn a_server_tells_the_port_that_it_got(rt: HostRuntime) {
+    let (ended, printed, _) = run(&rt, &arguments(&rt, 0, false));
     expect(&rt, ended.is_ok());
     expect(&rt, printed.as_slice().starts_with(b"serving 127.42.23.3:"));
     expect(
         &rt,
         !printed.as_slice().starts_with(b"serving 127.42.23.3:0,"),
     );
-    Ok(())
 }
 
 #[test]
-fn a_list_whose_file_can_not_be_had(rt: HostRuntime) -> Result<(), Fail> {
-    let path = path_for(&rt, "no-folder/leases")?;
-    let arguments = arguments_with_leases(&rt, 0, false, path.as_str())?;
+fn a_list_whose_file_can_not_be_had(rt: HostRuntime) {
+    let path = path_for(&rt, "no-folder/leases").expect(&rt, "a path");
+    let arguments = arguments_with_leases(&rt, 0, false, path.as_str());
     let (ended, _, errors) = run(&rt, &arguments);
     expect(&rt, ended.is_ok());
     let expected = format!(in rt.alloc();
         "nbt: {path} can't be written: No such file or directory (os error 2)\n"
-    )?;
+    ).expect(&rt, "memory");
     expect_eq(&rt, &errors.as_slice(), &expected.as_bytes());
-    Ok(())
 }
 
 /// Whether a list at this path is refused before anything is served, for what stands at the path with this behind it.
-fn is_refused(rt: &HostRuntime, path: &str, end: &str, why: &str) -> Result<bool, Fail> {
+fn is_refused<R: Abort + AllocGlobal + Net + time::Clock + Files>(
+    rt: &R,
+    path: &str,
+    end: &str,
+    why: &str,
+) -> bool {
     is_content_refused(rt, Content::Leases, path, end, why)
 }
 
 /// The same of another file that is kept.
-fn is_content_refused(
-    rt: &HostRuntime,
+fn is_content_refused<R: Abort + AllocGlobal + Net + time::Clock + Files>(
+    rt: &R,
     content: Content,
     path: &str,
     end: &str,
     why: &str,
-) -> Result<bool, Fail> {
-    let arguments = arguments_with(rt, content, path)?;
+) -> bool {
+    let arguments = arguments_with(rt, content, path);
     let (ended, printed, errors) = run(rt, &arguments);
-    let expected = format!(in rt.alloc(); "nbt: {path}{end} can't be written: {why}\n")?;
-    Ok(
-        ended == Err(Fault::Output)
-            && printed.is_empty()
-            && errors.as_slice() == expected.as_bytes(),
-    )
+    let expected = format!(in rt.alloc(); "nbt: {path}{end} can't be written: {why}\n").expect(
+        rt, "memory",
+    );
+
+    ended == Err(Fault::Output) && printed.is_empty() && errors.as_slice() == expected.as_bytes()
 }
 
 const ANOTHER: &str = "its first line isn't '# live leases of nbt nbns': name another file";
 
 /// Whether a file of this text, which stands at a list's path or at that of the new file beside it, stays as it is.
-fn stays(rt: &HostRuntime, name: &str, end: &str, text: &str) -> Result<bool, Fail> {
-    let path = path_for(rt, name)?;
-    let there = format!(in rt.alloc(); "{path}{end}")?;
-    fs::write(rt, there.as_str(), text)?;
-    let refused = is_refused(rt, path.as_str(), end, ANOTHER)?;
-    let same = fs::read_to_string(rt, there.as_str())?.as_str() == text;
-    fs::remove_file(rt, there.as_str())?;
-    Ok(refused && same)
+fn stays<R: Abort + AllocGlobal + Net + time::Clock + Files>(
+    rt: &R,
+    path: &str,
+    end: &str,
+    text: &str,
+) -> bool {
+    let there = format!(in rt.alloc(); "{path}{end}").expect(rt, "memory");
+    fs::write(rt, there.as_str(), text).expect(rt, "written");
+    let refused = is_refused(rt, path, end, ANOTHER);
+    let same = fs::read_to_string(rt, there.as_str())
+        .expect(rt, "its text")
+        .as_str()
+        == text;
+    fs::remove_file(rt, there.as_str()).expect(rt, "removed");
+    refused && same
 }
 
 #[test]
-fn a_list_replaces_nothing_but_a_list(rt: HostRuntime) -> Result<(), Fail> {
+fn a_list_replaces_nothing_but_a_list(rt: HostRuntime) {
     let device = is_refused(
         &rt,
         "/dev/null",
         "",
         "a device, a pipe or a socket is there",
-    )?;
+    );
     expect(&rt, device);
-    let folder = is_refused(&rt, "/tmp", "", "a folder is there")?;
+    let folder = is_refused(&rt, "/tmp", "", "a folder is there");
     expect(&rt, folder);
+    let path = path_for(&rt, "not-a-list").expect(&rt, "a path");
     let old = stays(
         &rt,
-        "old",
+        path.as_str(),
         "",
         "FRED#20 unique 127.0.0.2 2026-11-24T09:13:03Z\n",
-    )?;
+    );
     expect(&rt, old);
-    let cut = stays(&rt, "cut", "", "# live leases of nbt nbns")?;
+    let cut = stays(&rt, path.as_str(), "", "# live leases of nbt nbns");
     expect(&rt, cut);
-    let beside = stays(&rt, "beside", ".new", "not mine")?;
+    let beside = stays(&rt, path.as_str(), ".new", "not mine");
     expect(&rt, beside);
-    Ok(())
 }
 
 /// A kept file, its first line, one of another, and why that one is not replaced.
@@ -1242,61 +1216,58 @@ const FIRST_LINES: [(Content, &str, &str, &str); 3] = [
 ];
 
 /// Whether a file is put in place of one of its own first line, and of no other.
-fn replaces_its_own(
-    rt: &HostRuntime,
+fn replaces_its_own<R: Abort + AllocGlobal + Net + time::Clock + Files>(
+    rt: &R,
     path: &str,
     row: &(Content, &str, &str, &str),
-) -> Result<bool, Fail> {
+) -> bool {
     let (content, own, other, why) = row;
-    fs::write(rt, path, *other)?;
-    let refused = is_content_refused(rt, *content, path, "", why)?;
-    let stays = fs::read_to_string(rt, path)?.as_str() == *other;
-    let old = format!(in rt.alloc(); "{own}old\n")?;
-    fs::write(rt, path, old.as_str())?;
-    let (ended, _, errors) = run(rt, &arguments_with(rt, *content, path)?);
-    let text = fs::read_to_string(rt, path)?;
+    fs::write(rt, path, *other).expect(rt, "written");
+    let refused = is_content_refused(rt, *content, path, "", why);
+    let stays = fs::read_to_string(rt, path).expect(rt, "its text").as_str() == *other;
+    let old = format!(in rt.alloc(); "{own}old\n").expect(rt, "memory");
+    fs::write(rt, path, old.as_str()).expect(rt, "written");
+    let (ended, _, errors) = run(rt, &arguments_with(rt, *content, path));
+    let text = fs::read_to_string(rt, path).expect(rt, "its text");
     let is_new = text.as_str().starts_with(*own) && text.as_str() != old.as_str();
-    fs::remove_file(rt, path)?;
-    Ok(refused && stays && ended.is_ok() && errors.is_empty() && is_new)
+    fs::remove_file(rt, path).expect(rt, "removed");
+    refused && stays && ended.is_ok() && errors.is_empty() && is_new
 }
 
 #[test]
-fn each_file_replaces_its_own_kind_alone(rt: HostRuntime) -> Result<(), Fail> {
-    let path = path_for(&rt, "own-kind")?;
+fn each_file_replaces_its_own_kind_alone(rt: HostRuntime) {
+    let path = path_for(&rt, "own-kind").expect(&rt, "a path");
     for row in &FIRST_LINES {
-        expect_in(&rt, &row.1, replaces_its_own(&rt, path.as_str(), row)?);
+        expect_in(&rt, &row.1, replaces_its_own(&rt, path.as_str(), row));
     }
-    Ok(())
 }
 
 #[test]
-fn a_list_replaces_no_link(rt: HostRuntime) -> Result<(), Fail> {
-    let path = path_for(&rt, "link")?;
-    let there = path_for(&rt, "linked")?;
-    fs::write(&rt, there.as_str(), "")?;
-    symlink(&rt, there.as_str(), path.as_str())?;
-    let link = is_refused(&rt, path.as_str(), "", "a link is there")?;
+fn a_list_replaces_no_link(rt: HostRuntime) {
+    let path = path_for(&rt, "link").expect(&rt, "a path");
+    let there = path_for(&rt, "linked").expect(&rt, "a path");
+    fs::write(&rt, there.as_str(), "").expect(&rt, "written");
+    symlink(&rt, there.as_str(), path.as_str()).expect(&rt, "a link");
+    let link = is_refused(&rt, path.as_str(), "", "a link is there");
     expect(&rt, link);
     // One that leads nowhere is a link too.
-    fs::remove_file(&rt, there.as_str())?;
-    let link = is_refused(&rt, path.as_str(), "", "a link is there")?;
+    fs::remove_file(&rt, there.as_str()).expect(&rt, "removed");
+    let link = is_refused(&rt, path.as_str(), "", "a link is there");
     expect(&rt, link);
-    fs::remove_file(&rt, path.as_str())?;
-    Ok(())
+    fs::remove_file(&rt, path.as_str()).expect(&rt, "removed");
 }
 
 #[test]
-fn a_list_replaces_an_empty_file(rt: HostRuntime) -> Result<(), Fail> {
-    let path = path_for(&rt, "empty")?;
-    fs::write(&rt, path.as_str(), "")?;
-    let (ended, _, errors) = run(&rt, &arguments_with_leases(&rt, 0, false, path.as_str())?);
+fn a_list_replaces_an_empty_file(rt: HostRuntime) {
+    let path = path_for(&rt, "empty").expect(&rt, "a path");
+    fs::write(&rt, path.as_str(), "").expect(&rt, "written");
+    let (ended, _, errors) = run(&rt, &arguments_with_leases(&rt, 0, false, path.as_str()));
     expect(&rt, ended.is_ok() && errors.is_empty());
-    fs::remove_file(&rt, path.as_str())?;
-    Ok(())
+    fs::remove_file(&rt, path.as_str()).expect(&rt, "removed");
 }
 
 #[test]
-fn a_first_line_that_can_not_be_written(rt: HostRuntime) -> Result<(), Fail> {
+fn a_first_line_that_can_not_be_written(rt: HostRuntime) {
     let mut room = [0; 8];
     let mut short = &mut room[..];
     let mut errors = Vec::new(rt.alloc());
@@ -1305,7 +1276,7 @@ fn a_first_line_that_can_not_be_written(rt: HostRuntime) -> Result<(), Fail> {
         &run_nbns(
             &rt,
             rt.alloc(),
-            &arguments(&rt, 0, false)?,
+            &arguments(&rt, 0, false),
             &mut short,
             &mut errors,
         ),
@@ -1316,13 +1287,12 @@ fn a_first_line_that_can_not_be_written(rt: HostRuntime) -> Result<(), Fail> {
         &errors.as_slice(),
         &b"nbt: the first line can't be written: failed to write whole buffer\n".as_slice(),
     );
-    Ok(())
 }
 
 #[test]
-fn a_port_that_can_not_be_had(rt: HostRuntime) -> Result<(), Fail> {
-    let arguments = arguments(&rt, 20_172, false)?;
-    let _taken = UdpPort::bind(&rt, here(20_172))?;
+fn a_port_that_can_not_be_had(rt: HostRuntime) {
+    let arguments = arguments(&rt, 20_172, false);
+    let _taken = UdpPort::bind(&rt, here(20_172)).expect(&rt, "bound");
     let (ended, printed, errors) = run(&rt, &arguments);
     expect_eq(&rt, &ended, &Err(Fault::NoPort));
     expect(&rt, printed.is_empty());
@@ -1331,7 +1301,6 @@ fn a_port_that_can_not_be_had(rt: HostRuntime) -> Result<(), Fail> {
         &errors.as_slice(),
         &b"nbt: 127.42.23.3:20172: Address already in use (os error 98)\n".as_slice(),
     );
-    Ok(())
 }
 
 /// The life of a datagram in milliseconds, the longest lease in seconds, and what is said of them.
@@ -1348,35 +1317,35 @@ const JUDGED: [(u64, u32, Judged); 9] = [
 ];
 
 #[test]
-fn longest_leases_that_are_too_short_or_long(rt: HostRuntime) -> Result<(), Fail> {
+fn longest_leases_that_are_too_short_or_long(rt: HostRuntime) {
     for (life, longest, expected) in JUDGED {
         expect_eq_in(
             &rt,
             &(life, longest),
-            &judge(Config::new(life, longest, 1)?),
+            &judge(Config::new(life, longest, 1).expect(&rt, "limits")),
             &expected,
         );
     }
-    Ok(())
 }
 
-fn write_first(text: &mut String) -> Result<(), Fail> {
-    write_begin(&[FIRST], 300, 1_795_511_823, text)?;
-    write_begin(&[FIRST, SECOND], 20, 1_795_511_823, text)?;
-    write_refusal(Config::new(1_500, 20, 1)?, text)?;
-    text.push_str("\n")?;
-    write_warning(Config::new(1_000, 7_200, 1)?, text)?;
-    Ok(())
+fn write_first(rt: &impl Abort, text: &mut String) {
+    write_begin(&[FIRST], 300, 1_795_511_823, text).expect(rt, "a first line");
+    write_begin(&[FIRST, SECOND], 20, 1_795_511_823, text).expect(rt, "a first line");
+    write_refusal(Config::new(1_500, 20, 1).expect(rt, "limits"), text).expect(rt, "write refusal");
+    text.push_str("\n").expect(rt, "memory");
+    write_warning(Config::new(1_000, 7_200, 1).expect(rt, "limits"), text).expect(
+        rt,
+        "write warning",
+    );
 }
 
 #[test]
-fn what_is_said_at_first(rt: HostRuntime) -> Result<(), Fail> {
+fn what_is_said_at_first(rt: HostRuntime) {
     let mut text = String::new(rt.alloc());
-    write_first(&mut text)?;
+    write_first(&rt, &mut text);
     expect_eq(
         &rt,
         &text.as_str(),
         &"serving 127.0.0.2:137, silent for 300 s until 2026-11-24T09:17:03Z\nserving 127.0.0.2:137, 127.0.0.3:1024, silent for 20 s until 2026-11-24T09:17:03Z\nlongest lease 20 s, life of a datagram 1500 ms: it has to be 10 s and 20 lives at least, else a hold would lapse before it can be refreshed\nlongest lease 7200 s: after each start the server is silent for as long",
     );
-    Ok(())
 }

@@ -2,16 +2,14 @@
 
 use super::expect::{expect_eq, expect_eq_in};
 use super::log::{Done, claim_of, entry_of, outcome_of};
-use nbt_lease::Lease;
+use nbt_lease::{Lease, Moment};
 use nbt_name::{Kind, Name};
 use nbt_port::OwnReplies;
 use nbt_report::{
     Figures, Gauges, Health, OutcomeCounts, RefusalCounts, Tally, measure, write_hosts, write_stats,
 };
 use nbt_server::Refusal;
-use nbt_testing::moment;
 use std::process::Abort;
-use std::test::Fail;
 
 /// Each count of a tally, with its name.
 fn counts_of(tally: &Tally) -> [(&'static str, u64); 20] {
@@ -117,19 +115,18 @@ fn expect_counts<R: Abort>(rt: &R, tally: &Tally, base: u64, one: &str, other: &
 }
 
 /// Each datagram is counted once in its own row, and in no other.
-fn expect_counted<R: Abort>(rt: &R, rows: &[Counted]) -> Result<(), Fail> {
+fn expect_counted<R: Abort>(rt: &R, rows: &[Counted]) {
     for (done, is_broadcast, one, other) in rows {
-        let outcome = outcome_of(*done, claim_of("FRED", Kind::Unique, 0x7F000002)?);
+        let outcome = outcome_of(*done, claim_of(rt, "FRED", Kind::Unique, 0x7F000002));
         let entry = Some(entry_of(50, *is_broadcast, outcome));
         let mut tally = Tally::new();
         tally.count(&entry, 0);
         expect_counts(rt, &tally, 0, one, other);
     }
-    Ok(())
 }
 
 #[test]
-fn a_count_for_each_outcome(rt: HostRuntime) -> Result<(), Fail> {
+fn a_count_for_each_outcome(rt: HostRuntime) {
     expect_counted(&rt, COUNTED)
 }
 
@@ -164,8 +161,8 @@ fn tally_of(count: u64) -> Tally {
 }
 
 #[test]
-fn counts_go_on_and_never_wrap(rt: HostRuntime) -> Result<(), Fail> {
-    let claim = claim_of("FRED", Kind::Unique, 0x7F000002)?;
+fn counts_go_on_and_never_wrap(rt: HostRuntime) {
+    let claim = claim_of(&rt, "FRED", Kind::Unique, 0x7F000002);
     let entry = Some(entry_of(50, false, outcome_of(Done::Refused(Refusal::Star), claim)));
     let mut tally = tally_of(7);
     tally.count(&entry, 0);
@@ -177,7 +174,6 @@ fn counts_go_on_and_never_wrap(rt: HostRuntime) -> Result<(), Fail> {
     let mut tally = tally_of(u64::MAX);
     tally.count(&entry, 2);
     expect_counts(&rt, &tally, u64::MAX, "", "");
-    Ok(())
 }
 
 /// Statistics, each number of which stands in one place alone.
@@ -302,11 +298,10 @@ nbt_nbns_state_sync_seconds_total 303.456
 ";
 
 #[test]
-fn all_statistics(rt: HostRuntime) -> Result<(), Fail> {
-    let mut text = String::from_str(rt.alloc(), "> ")?;
-    write_stats(&FIGURES, &mut text)?;
+fn all_statistics(rt: HostRuntime) {
+    let mut text = String::from_str(rt.alloc(), "> ").expect(&rt, "memory");
+    write_stats(&FIGURES, &mut text).expect(&rt, "write stats");
     expect_eq(&rt, &text.as_str().strip_prefix("> "), &Some(STATS));
-    Ok(())
 }
 
 /// Sixteen octets, a scope, of which kind the lease is, and when it ends; and the line at the moment 10,000.
@@ -398,51 +393,58 @@ const HOSTS: &[HostRow] = &[
 ];
 
 /// The row of a table.
-fn row_of(row: &HostRow, addr: u32) -> Result<(Name, Lease), Fail> {
+fn row_of(rt: &impl Abort, row: &HostRow, addr: u32) -> (Name, Lease) {
     let (octets, scope, kind, end, _) = row;
     let lease = Lease {
         addr,
         kind: *kind,
         end: *end,
     };
-    Ok((Name::new(*octets, *scope)?, lease))
+    (Name::new(*octets, *scope).expect(rt, "a name"), lease)
 }
 
 /// The hosts of these rows, one row alone at a time.
-fn expect_each<R: Abort + AllocGlobal>(
-    rt: &R,
-    rows: &[HostRow],
-    text: &mut String,
-) -> Result<(), Fail> {
+fn expect_each<R: Abort + AllocGlobal>(rt: &R, rows: &[HostRow], text: &mut String) {
     for row in rows {
         text.clear();
-        write_hosts(moment(10_000)?, &[row_of(row, 0xC0000207)?], text)?;
-        let expected = format!(in rt.alloc(); "# hosts of nbt nbns\n{}", row.4)?;
+        write_hosts(
+            Moment::new(10_000).expect(rt, "a moment"),
+            &[row_of(rt, row, 0xC0000207)],
+            text,
+        )
+        .expect(rt, "hosts");
+        let expected = format!(in rt.alloc(); "# hosts of nbt nbns\n{}", row.4).expect(
+            rt, "memory",
+        );
         expect_eq_in(rt, row.0, &text.as_str(), &expected.as_str());
     }
-    Ok(())
 }
 
 #[test]
-fn names_that_are_hosts(rt: HostRuntime) -> Result<(), Fail> {
+fn names_that_are_hosts(rt: HostRuntime) {
     expect_each(&rt, HOSTS, &mut String::new(rt.alloc()))
 }
 
 #[test]
-fn hosts_stand_in_the_order_of_the_rows(rt: HostRuntime) -> Result<(), Fail> {
+fn hosts_stand_in_the_order_of_the_rows(rt: HostRuntime) {
+    let hosts = HOSTS;
     let rows = [
-        row_of(&HOSTS[9], 0x0A000001)?,
-        row_of(&HOSTS[1], 0x0A000002)?,
-        row_of(&HOSTS[0], 0xFFFFFFFE)?,
+        row_of(&rt, &hosts[9], 0x0A000001),
+        row_of(&rt, &hosts[1], 0x0A000002),
+        row_of(&rt, &hosts[0], 0xFFFFFFFE),
     ];
-    let mut text = String::from_str(rt.alloc(), "> ")?;
-    write_hosts(moment(10_000)?, &rows, &mut text)?;
+    let mut text = String::from_str(rt.alloc(), "> ").expect(&rt, "memory");
+    write_hosts(
+        Moment::new(10_000).expect(&rt, "a moment"),
+        &rows,
+        &mut text,
+    )
+    .expect(&rt, "hosts");
     expect_eq(
         &rt,
         &text.as_str(),
         &"> # hosts of nbt nbns\n10.0.0.1 ABCDEFGHIJKLMNO\n255.255.255.254 FILER\n",
     );
-    Ok(())
 }
 
 /// The ends of leases and their kinds, of how many rows the table is, and what they are at the moment 10,000.
@@ -509,10 +511,11 @@ const MEASURED: &[Measured] = &[
 
 /// What these leases are, in a list of rows.
 fn measured(
+    rt: &impl Abort,
     leases: &[(u64, Kind)],
     most: usize,
     rows: &mut Vec<(Name, Lease)>,
-) -> Result<Gauges, Fail> {
+) -> Gauges {
     rows.clear();
     for (end, kind) in leases {
         let lease = Lease {
@@ -520,23 +523,26 @@ fn measured(
             kind: *kind,
             end: *end,
         };
-        rows.push((Name::new(b"FILER           ", b"")?, lease))?;
+        rows.push((
+            Name::new(b"FILER           ", b"").expect(rt, "a name"),
+            lease,
+        ))
+        .expect(rt, "memory");
     }
-    Ok(measure(rows.as_slice(), most, moment(10_000)?))
+    measure(
+        rows.as_slice(),
+        most,
+        Moment::new(10_000).expect(rt, "a moment"),
+    )
 }
 
-fn expect_measured<R: Abort>(
-    rt: &R,
-    table: &[Measured],
-    rows: &mut Vec<(Name, Lease)>,
-) -> Result<(), Fail> {
+fn expect_measured<R: Abort>(rt: &R, table: &[Measured], rows: &mut Vec<(Name, Lease)>) {
     for (leases, most, expected) in table {
-        expect_eq(rt, &measured(leases, *most, rows)?, expected);
+        expect_eq(rt, &measured(rt, leases, *most, rows), expected);
     }
-    Ok(())
 }
 
 #[test]
-fn what_leases_are_in_numbers(rt: HostRuntime) -> Result<(), Fail> {
+fn what_leases_are_in_numbers(rt: HostRuntime) {
     expect_measured(&rt, MEASURED, &mut Vec::new(rt.alloc()))
 }

@@ -8,9 +8,8 @@ use nbt_name::Addr;
 use nbt_port::{Device, MemoryClock, MemoryPort, Port, UdpPort};
 use nbt_serve::{Counts, SambaPort, serve_turns, take_registration};
 use nbt_server::Server;
-use nbt_testing::{EVERY_KIND, expect_sent, octets, port as port_of};
+use nbt_testing::{EVERY_KIND, octets, port as port_of, sent_all};
 use std::process::Abort;
-use std::test::Fail;
 use std::{mem, time};
 
 /// What follows the flags in nmbd's registration of NODEB#20, and in the scope LAB.TEST.
@@ -105,71 +104,67 @@ const LEFT: &[&str] = &[
 ];
 
 /// The octets of an id, flags and what follows them.
-fn claim<R: AllocGlobal>(rt: &R, id: &str, flags: &str, tail: &str) -> Result<Vec<u8>, Fail> {
-    let mut claim = octets(rt, id)?;
-    claim.extend_from_slice(octets(rt, flags)?.as_slice())?;
-    claim.extend_from_slice(octets(rt, tail)?.as_slice())?;
-    Ok(claim)
+fn claim<R: Abort + AllocGlobal>(rt: &R, id: &str, flags: &str, tail: &str) -> Vec<u8> {
+    let mut claim = octets(rt, id).expect(rt, "octets");
+    claim
+        .extend_from_slice(octets(rt, flags).expect(rt, "octets").as_slice())
+        .expect(rt, "memory");
+    claim
+        .extend_from_slice(octets(rt, tail).expect(rt, "octets").as_slice())
+        .expect(rt, "memory");
+    claim
 }
 
 /// These octets are left as they are.
-fn expect_left<R: Abort + AllocGlobal>(rt: &R, given: &[u8], words: &str) -> Result<(), Fail> {
-    let mut taken = Vec::from_slice(rt.alloc(), given)?;
+fn expect_left<R: Abort + AllocGlobal>(rt: &R, given: &[u8], words: &str) {
+    let mut taken = Vec::from_slice(rt.alloc(), given).expect(rt, "memory");
     expect_in(rt, &words, !take_registration(taken.as_mut_slice()));
     expect_eq_in(rt, &words, &taken.as_slice(), &given);
-    Ok(())
 }
 
 /// These octets are taken by one octet.
 fn expect_taken_as<R: Abort + AllocGlobal>(
     rt: &R,
     (id, before, afterwards, tail): &(&str, &str, &str, &str),
-) -> Result<(), Fail> {
-    let mut taken = claim(rt, id, before, tail)?;
+) {
+    let mut taken = claim(rt, id, before, tail);
     expect_in(rt, &tail, take_registration(taken.as_mut_slice()));
-    let wanted = claim(rt, id, afterwards, tail)?;
+    let wanted = claim(rt, id, afterwards, tail);
     expect_eq_in(rt, &tail, &taken.as_slice(), &wanted.as_slice());
-    Ok(())
 }
 
-fn expect_all_taken<R: Abort + AllocGlobal>(
-    rt: &R,
-    rows: &[(&str, &str, &str, &str)],
-) -> Result<(), Fail> {
+fn expect_all_taken<R: Abort + AllocGlobal>(rt: &R, rows: &[(&str, &str, &str, &str)]) {
     for row in rows {
-        expect_taken_as(rt, row)?;
+        expect_taken_as(rt, row);
     }
-    Ok(())
 }
 
 #[test]
-fn registrations_of_other_forms_are_taken_by_one_octet(rt: HostRuntime) -> Result<(), Fail> {
+fn registrations_of_other_forms_are_taken_by_one_octet(rt: HostRuntime) {
     expect_all_taken(&rt, TAKEN)
 }
 
-fn expect_all_left<R: Abort + AllocGlobal>(rt: &R, list: &[&str]) -> Result<(), Fail> {
+fn expect_all_left<R: Abort + AllocGlobal>(rt: &R, list: &[&str]) {
     for words in list {
-        let given = octets(rt, words)?;
-        expect_left(rt, given.as_slice(), words)?;
+        let given = octets(rt, words).expect(rt, "octets");
+        expect_left(rt, given.as_slice(), words);
     }
-    Ok(())
 }
 
 #[test]
-fn all_else_is_left_as_it_is(rt: HostRuntime) -> Result<(), Fail> {
-    expect_all_left(&rt, LEFT)?;
+fn all_else_is_left_as_it_is(rt: HostRuntime) {
+    expect_all_left(&rt, LEFT);
     expect_all_left(&rt, &EVERY_KIND)
 }
 
 #[test]
-fn a_packet_that_is_cut_is_left_as_it_is(rt: HostRuntime) -> Result<(), Fail> {
+fn a_packet_that_is_cut_is_left_as_it_is(rt: HostRuntime) {
     for (flags, tail) in [("7900", NODEB), ("2800", LAB4)] {
-        let whole = claim(&rt, "0001", flags, tail)?;
+        let whole = claim(&rt, "0001", flags, tail);
         for count in 0..whole.len() {
-            expect_left(&rt, &whole[..count], flags)?;
+            expect_left(&rt, &whole[..count], flags);
         }
     }
-    Ok(())
 }
 
 /// nmbd's machine, and another one.
@@ -258,11 +253,11 @@ fn expect_grants<R: Abort + AllocGlobal>(
     over: &mut SambaPort<MemoryPort>,
     clock: &mut MemoryClock,
     server: &mut Server,
-) -> Result<(), Fail> {
-    let counts = serve(rt, over, clock, server)?;
+) {
+    let counts = serve(rt, over, clock, server).expect(rt, "serve");
     expect_eq(rt, &counts.receives, &9);
     expect_eq(rt, &counts.replies, &7);
-    expect_sent(rt, over.beneath(), &REPLIES)
+    sent_all(rt, over.beneath(), &REPLIES).expect(rt, "sent")
 }
 
 /// A failure of the port beneath is a failure.
@@ -293,17 +288,16 @@ impl Scene for Over {
         port: &mut MemoryPort,
         clock: &mut MemoryClock,
         server: &mut Server,
-    ) -> Result<(), Fail> {
+    ) {
         if let Some(call) = self.fails_after {
             port.fail_after(call);
         }
-        let silent = port_of(rt, &[])?;
+        let silent = port_of(rt, &[]).expect(rt, "a port");
         let mut over = SambaPort::new(mem::replace(port, silent));
         match self.fails_after {
             None => expect_grants(rt, &mut over, clock, server),
             Some(call) => {
                 expect_failure(rt, &mut over, clock, server, call);
-                Ok(())
             }
         }
     }
@@ -319,21 +313,22 @@ impl Scene for Beneath {
         port: &mut MemoryPort,
         clock: &mut MemoryClock,
         server: &mut Server,
-    ) -> Result<(), Fail> {
-        let counts = serve(rt, port, clock, server)?;
+    ) {
+        let counts = serve(rt, port, clock, server).expect(rt, "serve");
         expect_eq(rt, &counts.replies, &4);
-        expect_sent(rt, port, &REPLIES_BENEATH)
+        sent_all(rt, port, &REPLIES_BENEATH).expect(rt, "sent")
     }
 }
 
 #[test]
-fn a_server_over_the_port_grants_what_samba_registers(rt: HostRuntime) -> Result<(), Fail> {
+fn a_server_over_the_port_grants_what_samba_registers(rt: HostRuntime) {
+    let comes: &[Row] = &COMES;
     // The calls that fail, one at a time: the receive of the first datagram, and the send of the reply to it.
     for fails_after in [None, Some(0), Some(1)] {
-        play_on(&rt, &COMES, &[60_000], &Over { fails_after })?;
+        play_on(&rt, comes, &[60_000], &Over { fails_after });
     }
     // A server over the port beneath does not.
-    play_on(&rt, &COMES, &[60_000], &Beneath)
+    play_on(&rt, comes, &[60_000], &Beneath)
 }
 
 /// Two ends of this machine, with a port that no other test has.
@@ -368,38 +363,40 @@ fn expect_taken<R: Abort + AllocGlobal>(
     near: &mut SambaPort<UdpPort>,
     far: &mut SambaPort<UdpPort>,
     came: &mut ArrayVec<u8, 2048>,
-) -> Result<(), Fail> {
-    send(rt, near, claim(rt, "60f4", "7900", NODEB)?.as_slice())?;
-    expect_eq(rt, &receive(rt, far, came)?, &Some(HERE));
-    let taken = claim(rt, "60f4", "2900", NODEB)?;
+) {
+    send(rt, near, claim(rt, "60f4", "7900", NODEB).as_slice()).expect(rt, "sent");
+    expect_eq(
+        rt,
+        &receive(rt, far, came).expect(rt, "received"),
+        &Some(HERE),
+    );
+    let taken = claim(rt, "60f4", "2900", NODEB);
     expect_eq(rt, &came.as_slice(), &taken.as_slice());
-    expect_eq(rt, &receive(rt, far, came)?, &None);
+    expect_eq(rt, &receive(rt, far, came).expect(rt, "received"), &None);
     expect(rt, near.cause().is_none());
-    Ok(())
 }
 
 /// A datagram of IPv4 has 65,535 octets at most (RFC 791).
-fn expect_cause<R: Abort + AllocGlobal>(rt: &R, near: &mut SambaPort<UdpPort>) -> Result<(), Fail> {
+fn expect_cause<R: Abort + AllocGlobal>(rt: &R, near: &mut SambaPort<UdpPort>) {
     let mut long = Vec::new(rt.alloc());
-    long.resize(65_508, 0)?;
+    long.resize(65_508, 0).expect(rt, "memory");
     expect_eq(rt, &send(rt, near, long.as_slice()), &Err(Device));
     expect_eq(rt, &near.failures(), &1);
     expect(rt, near.cause().is_some());
-    Ok(())
 }
 
 fn over_udp<R: Abort + AllocGlobal>(
     rt: &R,
     near: &mut SambaPort<UdpPort>,
     far: &mut SambaPort<UdpPort>,
-) -> Result<(), Fail> {
-    expect_taken(rt, near, far, &mut ArrayVec::new())?;
+) {
+    expect_taken(rt, near, far, &mut ArrayVec::new());
     expect_cause(rt, near)
 }
 
 #[test]
-fn over_udp_too_and_the_cause_of_a_failure_is_known(rt: HostRuntime) -> Result<(), Fail> {
-    let near = UdpPort::bind(&rt, HERE)?;
-    let far = UdpPort::bind(&rt, THERE)?;
+fn over_udp_too_and_the_cause_of_a_failure_is_known(rt: HostRuntime) {
+    let near = UdpPort::bind(&rt, HERE).expect(&rt, "bound");
+    let far = UdpPort::bind(&rt, THERE).expect(&rt, "bound");
     over_udp(&rt, &mut SambaPort::new(near), &mut SambaPort::new(far))
 }

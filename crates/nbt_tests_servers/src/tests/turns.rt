@@ -11,12 +11,11 @@ use nbt_port::{Datagram, Device, MemoryClock, MemoryPort, Port};
 use nbt_serve::{Counts, serve_turns};
 use nbt_server::Server;
 use nbt_testing::{
-    FOUND, GRANTED, NOT_FOUND, QUERY, REFRESH, REFUSED, REGISTRATION, RIVAL, Row, config,
-    expect_sent, moment, octets, registration_of_many,
+    FOUND, GRANTED, NOT_FOUND, QUERY, REFRESH, REFUSED, REGISTRATION, RIVAL, Row, config, octets,
+    registration_of_many, sent_all,
 };
 use std::collections::VecDeque;
 use std::process::Abort;
-use std::test::Fail;
 use std::time;
 
 const SERVER: Addr = Addr {
@@ -81,13 +80,13 @@ impl Scene for Turns {
         port: &mut MemoryPort,
         clock: &mut MemoryClock,
         server: &mut Server,
-    ) -> Result<(), Fail> {
+    ) {
         let (receives, replies, lost) = self.counts;
-        let counts = serve(rt, port, clock, server, receives)?;
+        let counts = serve(rt, port, clock, server, receives).expect(rt, "serve");
         expect_eq_in(rt, &self.name, &counts.receives, &receives);
         expect_eq_in(rt, &self.name, &counts.replies, &replies);
         expect_eq_in(rt, &self.name, &counts.lost, &lost);
-        expect_sent(rt, port, self.sent)
+        sent_all(rt, port, self.sent).expect(rt, "sent")
     }
 }
 
@@ -126,21 +125,21 @@ const TURNS: &[Turns] = &[
 ];
 
 /// The server's reply to these words at 60,000.
-fn expect_reply<R: Abort + AllocGlobal>(
-    rt: &R,
-    server: &mut Server,
-    asks: &str,
-    gives: &str,
-) -> Result<(), Fail> {
+fn expect_reply<R: Abort + AllocGlobal>(rt: &R, server: &mut Server, asks: &str, gives: &str) {
     let mut out = ArrayVec::new();
-    server.on_datagram(
-        moment(60_000)?,
-        FIRST,
-        octets(rt, asks)?.as_slice(),
-        &mut out,
-    )?;
-    expect_eq(rt, &out.as_slice(), &octets(rt, gives)?.as_slice());
-    Ok(())
+    server
+        .on_datagram(
+            Moment::new(60_000).expect(rt, "a moment"),
+            FIRST,
+            octets(rt, asks).expect(rt, "octets").as_slice(),
+            &mut out,
+        )
+        .expect(rt, "a reply");
+    expect_eq(
+        rt,
+        &out.as_slice(),
+        &octets(rt, gives).expect(rt, "octets").as_slice(),
+    );
 }
 
 /// The reply to a query at 60,000, where FRED was leased then.
@@ -215,37 +214,42 @@ impl Scene for Failure {
         port: &mut MemoryPort,
         clock: &mut MemoryClock,
         server: &mut Server,
-    ) -> Result<(), Fail> {
+    ) {
         let call = self.call;
         port.fail_after(call);
         expect_eq_in(rt, &call, &serve(rt, port, clock, server, 2), &Err(Device));
         expect_eq_in(rt, &call, &port.failures(), &1);
-        expect_eq_in(rt, &call, &server.last(), &moment(self.last)?);
-        expect_reply(rt, server, QUERY, self.query)?;
+        expect_eq_in(
+            rt,
+            &call,
+            &server.last(),
+            &Moment::new(self.last).expect(rt, "a moment"),
+        );
+        expect_reply(rt, server, QUERY, self.query);
         let wanted = Counts {
             receives: self.turns,
             replies: self.replies,
             lost: 0,
         };
-        let counts = serve(rt, port, clock, server, self.turns)?;
+        let counts = serve(rt, port, clock, server, self.turns).expect(rt, "serve");
         expect_eq_in(rt, &call, &counts, &wanted);
         expect_eq_in(rt, &call, &port.failures(), &1);
-        expect_sent(rt, port, self.sent)
+        sent_all(rt, port, self.sent).expect(rt, "sent")
     }
 }
 
 /// A port that hands out the registrations of 4,096 names.
-fn port_of_many<R: AllocGlobal>(rt: &R) -> Result<MemoryPort, Fail> {
+fn port_of_many<R: Abort + AllocGlobal>(rt: &R) -> MemoryPort {
     let mut incoming = VecDeque::new(rt.alloc());
     for number in 0..4096 {
-        let octets = registration_of_many(rt, number)?;
+        let octets = registration_of_many(rt, number).expect(rt, "a registration");
         let datagram = Datagram {
             addr: FIRST,
             octets,
         };
-        incoming.push_back(Some(datagram))?;
+        incoming.push_back(Some(datagram)).expect(rt, "memory");
     }
-    Ok(MemoryPort::new(rt.alloc(), incoming))
+    MemoryPort::new(rt.alloc(), incoming)
 }
 
 /// The registrations of 4,096 names, of which none is lost.
@@ -258,8 +262,8 @@ impl Scene for Many {
         port: &mut MemoryPort,
         clock: &mut MemoryClock,
         server: &mut Server,
-    ) -> Result<(), Fail> {
-        *port = port_of_many(rt)?;
+    ) {
+        *port = port_of_many(rt);
         let wanted = Counts {
             receives: 4096,
             replies: 4096,
@@ -273,44 +277,43 @@ impl Scene for Many {
                 matches!(datagram.octets.as_slice(), [_, _, 0xAD, 0x80, ..]),
             );
         }
-        Ok(())
     }
 }
 
-fn play_turns<R: Abort + AllocGlobal + time::Clock>(rt: &R, rows: &[Turns]) -> Result<(), Fail> {
+fn play_turns<R: Abort + AllocGlobal + time::Clock>(rt: &R, rows: &[Turns]) {
     for turns in rows {
-        play_on(rt, turns.given, turns.moments, turns)?;
+        play_on(rt, turns.given, turns.moments, turns);
     }
-    Ok(())
 }
 
-fn play_failures<R: Abort + AllocGlobal + time::Clock>(
-    rt: &R,
-    rows: &[Failure],
-) -> Result<(), Fail> {
+fn play_failures<R: Abort + AllocGlobal + time::Clock>(rt: &R, rows: &[Failure]) {
     for failure in rows {
-        play_on(rt, RIVALS, &[60_000], failure)?;
+        play_on(rt, RIVALS, &[60_000], failure);
     }
-    Ok(())
 }
 
 #[test]
-fn turns_of_a_server(rt: HostRuntime) -> Result<(), Fail> {
-    play_turns(&rt, TURNS)?;
-    play_failures(&rt, FAILURES)?;
+fn turns_of_a_server(rt: HostRuntime) {
+    play_turns(&rt, TURNS);
+    play_failures(&rt, FAILURES);
     play_on(&rt, &[], &[60_000], &Many)
 }
 
-fn node() -> Result<Node<2>, Fail> {
-    Ok(Node::start(FIRST, SERVER, config(4096)?, Moment::zero()))
+fn node(rt: &impl Abort) -> Node<2> {
+    Node::start(
+        FIRST,
+        SERVER,
+        config(4096).expect(rt, "limits"),
+        Moment::zero(),
+    )
 }
 
-fn fred() -> Result<Want, Fail> {
-    Ok(Want {
-        name: Name::new(b"FRED            ", b"")?,
+fn fred(rt: &impl Abort) -> Want {
+    Want {
+        name: Name::new(b"FRED            ", b"").expect(rt, "a name"),
         kind: Kind::Unique,
         ttl: 60,
-    })
+    }
 }
 
 /// Nothing comes; then the grant; a status request; and the reply to the refresh.
@@ -348,36 +351,33 @@ fn asked_and_renewed<R: Abort + AllocGlobal>(
     clock: &mut MemoryClock,
     node: &mut Node<2>,
     want: &Want,
-) -> Result<(), Fail> {
+) {
     for seen in SEEN {
-        let got = turn(rt, port, clock, node, want)?;
+        let got = turn(rt, port, clock, node, want).expect(rt, "turn");
         expect_eq(rt, &got, &seen);
         if seen == Seen::Granted(60) {
-            expect_sent(rt, port, &[(SERVER, REGISTRATION)])?;
+            sent_all(rt, port, &[(SERVER, REGISTRATION)]).expect(rt, "sent");
         }
     }
-    expect_sent(rt, port, &[REQUEST, STATUS_REPLY, REFRESHING])?;
-    let held = node.holds(moment(149_877)?, &want.name);
+    sent_all(rt, port, &[REQUEST, STATUS_REPLY, REFRESHING]).expect(rt, "sent");
+    let held = node.holds(Moment::new(149_877).expect(rt, "a moment"), &want.name);
     expect_eq(rt, &held, &Some(Kind::Unique));
-    Ok(())
 }
 
 /// It is asking: it doesn't hold the name, and asks for it again at 65,000 alone.
-fn expect_asking<R: Abort>(
-    rt: &R,
-    node: &mut Node<2>,
-    want: &Want,
-    out: &mut ArrayVec<u8, 576>,
-) -> Result<(), Fail> {
-    let then = moment(60_000)?;
+fn expect_asking<R: Abort>(rt: &R, node: &mut Node<2>, want: &Want, out: &mut ArrayVec<u8, 576>) {
+    let then = Moment::new(60_000).expect(rt, "a moment");
     expect_eq(rt, &node.holds(then, &want.name), &None);
     expect_eq(
         rt,
         &node.ask(then, &want.name, want.kind, 60, out),
         &Err(AskFault::Busy),
     );
-    expect_eq(rt, &node.poll(moment(64_999)?, out), &Ok(None));
-    Ok(())
+    expect_eq(
+        rt,
+        &node.poll(Moment::new(64_999).expect(rt, "a moment"), out),
+        &Ok(None),
+    );
 }
 
 /// A request that was not sent is sent again.
@@ -387,13 +387,17 @@ fn sent_again<R: Abort + AllocGlobal>(
     clock: &mut MemoryClock,
     node: &mut Node<2>,
     want: &Want,
-) -> Result<(), Fail> {
+) {
     port.fail_after(0);
     expect_eq(rt, &turn(rt, port, clock, node, want), &Err(Device));
     expect_eq(rt, &port.failures(), &1);
-    expect_asking(rt, node, want, &mut ArrayVec::new())?;
-    expect_eq(rt, &turn(rt, port, clock, node, want)?, &Seen::Nothing);
-    expect_sent(rt, port, &[(SERVER, REGISTRATION)])
+    expect_asking(rt, node, want, &mut ArrayVec::new());
+    expect_eq(
+        rt,
+        &turn(rt, port, clock, node, want).expect(rt, "turn"),
+        &Seen::Nothing,
+    );
+    sent_all(rt, port, &[(SERVER, REGISTRATION)]).expect(rt, "sent")
 }
 
 /// The grant; a status request; nothing; and the reply to the refresh.
@@ -441,20 +445,20 @@ fn goes_on<R: Abort + AllocGlobal>(
     want: &Want,
     call: u64,
     sent: &[Row],
-) -> Result<(), Fail> {
+) {
     port.fail_after(call);
     let failed = four_turns(rt, port, clock, node, want);
     expect_eq_in(rt, &call, &failed, &Err(Device));
     expect_eq_in(rt, &call, &port.failures(), &1);
     // Before the grant has come it doesn't hold the name, and after it no failure loses it.
-    let holds = node.holds(moment(100_000)?, &want.name);
+    let holds = node.holds(Moment::new(100_000).expect(rt, "a moment"), &want.name);
     expect_eq_in(rt, &call, &holds.is_some(), &(call >= 2));
     let went_on = four_turns(rt, port, clock, node, want);
     expect_eq_in(rt, &call, &went_on, &Ok(()));
     expect_eq_in(rt, &call, &port.failures(), &1);
-    let held = node.holds(moment(149_877)?, &want.name);
+    let held = node.holds(Moment::new(149_877).expect(rt, "a moment"), &want.name);
     expect_eq_in(rt, &call, &held, &Some(Kind::Unique));
-    expect_sent(rt, port, sent)
+    sent_all(rt, port, sent).expect(rt, "sent")
 }
 
 /// What a node does that wants FRED.
@@ -473,9 +477,9 @@ impl Scene for Does {
         port: &mut MemoryPort,
         clock: &mut MemoryClock,
         _: &mut Server,
-    ) -> Result<(), Fail> {
-        let want = fred()?;
-        let mut node = node()?;
+    ) {
+        let want = fred(rt);
+        let mut node = node(rt);
         match self {
             Does::AsksAndRenews => asked_and_renewed(rt, port, clock, &mut node, &want),
             Does::SendsAgain => sent_again(rt, port, clock, &mut node, &want),
@@ -490,20 +494,16 @@ const MOMENTS_WITH_A_FAILURE: [u64; 9] = [
     60_000, 65_000, 70_000, 75_000, 80_000, 85_000, 90_000, 95_000, 100_000,
 ];
 
-fn play_each_call<R: Abort + AllocGlobal + time::Clock>(
-    rt: &R,
-    rows: &'static [&'static [Row]],
-) -> Result<(), Fail> {
+fn play_each_call<R: Abort + AllocGlobal + time::Clock>(rt: &R, rows: &'static [&'static [Row]]) {
     for (call, sent) in (0..).zip(rows) {
         let does = Does::GoesOn(call, *sent);
-        play_on(rt, &WITH_A_FAILURE, &MOMENTS_WITH_A_FAILURE, &does)?;
+        play_on(rt, &WITH_A_FAILURE, &MOMENTS_WITH_A_FAILURE, &does);
     }
-    Ok(())
 }
 
 #[test]
-fn turns_of_a_node(rt: HostRuntime) -> Result<(), Fail> {
-    play_on(&rt, &TO_A_NODE, &MOMENTS, &Does::AsksAndRenews)?;
-    play_on(&rt, &[], &[60_000, 65_000], &Does::SendsAgain)?;
+fn turns_of_a_node(rt: HostRuntime) {
+    play_on(&rt, &TO_A_NODE, &MOMENTS, &Does::AsksAndRenews);
+    play_on(&rt, &[], &[60_000, 65_000], &Does::SendsAgain);
     play_each_call(&rt, SENT_WITH_A_FAILURE)
 }

@@ -1,17 +1,15 @@
 //! Stores over a disk in memory: what a crash leaves of them, with trouble at each call.
 
 use super::expect::{expect, expect_eq_in, expect_in};
-use super::{fred, team};
-use nbt_lease::{Config, Lease};
+use super::{fred, header, team};
+use nbt_lease::Lease;
 use nbt_name::{Kind, Name};
 use nbt_store::{
-    Boot, Broken, Change, DiskStore, Header, Loaded, MemoryDisk, ReadFault, Store, Trouble, load,
+    Broken, Change, DiskStore, Header, Loaded, MemoryDisk, ReadFault, Store, Trouble, load,
 };
-use nbt_testing::moment;
 use std::alloc::Global;
 use std::io;
 use std::process::Abort;
-use std::test::Fail;
 
 /// From which call on there is which trouble. The calls are 0 to 2 to open the store, 3 a change, 4 a change, 5 a sync, 6 a change,
 /// 7 to 9 to write the file anew, 10 a change, 11 a sync, 12 a change, 13 a change, 14 a sync.
@@ -36,34 +34,21 @@ const OLD: u64 = 77;
 
 const NEW: u64 = 88;
 
-fn header(last: u64) -> Result<Header, Fail> {
-    let boot = Boot::new(b"boot-1").ok_or("no boot")?;
-    let config = Config::new(1000, 60, 4096)?;
-    Ok(Header::new(
-        config,
-        boot,
-        7,
-        moment(5)?,
-        moment(last)?,
-        1_700_000_000_000,
-    ))
-}
-
 /// The lease of this number: the first one is FRED's, and each other one TEAM's.
-fn row(number: u32) -> Result<(Name, Lease), Fail> {
+fn row(rt: &impl Abort, number: u32) -> (Name, Lease) {
     let (name, kind) = match number {
-        0 => (fred(b"")?, Kind::Unique),
-        _ => (team(b"")?, Kind::Group),
+        0 => (fred(rt, b""), Kind::Unique),
+        _ => (team(rt, b""), Kind::Group),
     };
     let end = 60_077;
     let addr = number;
-    Ok((name, Lease { addr, kind, end }))
+    (name, Lease { addr, kind, end })
 }
 
 /// The lease of this number begins.
-fn append(store: &mut DiskStore<MemoryDisk>, number: u32) -> Result<Result<(), Broken>, Fail> {
-    let (name, lease) = row(number)?;
-    Ok(store.append(&Change::Began { name, lease }))
+fn append(rt: &impl Abort, store: &mut DiskStore<MemoryDisk>, number: u32) -> Result<(), Broken> {
+    let (name, lease) = row(rt, number);
+    store.append(&Change::Began { name, lease })
 }
 
 /// The second, the fourth and the sixth change are synced, and the third is in a file that is written anew. Returns whether that
@@ -84,34 +69,34 @@ fn settle(
 
 /// Makes six changes, up to the first call that fails. Returns how many are durable, and how many were tried.
 fn run(
+    rt: &impl Abort,
     store: &mut DiskStore<MemoryDisk>,
     header: &Header,
     rows: &[(Name, Lease)],
-) -> Result<(usize, usize), Fail> {
+) -> (usize, usize) {
     let mut durable = 0;
     for number in 1..7u32 {
         let tried = number as usize;
-        let Ok(()) = append(store, number)? else {
-            return Ok((durable, tried));
+        let Ok(()) = append(rt, store, number) else {
+            return (durable, tried);
         };
         match settle(store, header, rows, number) {
             Ok(true) => durable = tried,
             Ok(false) => {}
-            Err(Broken) => return Ok((durable, tried)),
+            Err(Broken) => return (durable, tried),
         }
     }
-    Ok((durable, 6))
+    (durable, 6)
 }
 
 /// The leases are the first ones, in order.
-fn see_rows(rt: &impl Abort, rows: &[(Name, Lease)]) -> Result<(), Fail> {
+fn see_rows(rt: &impl Abort, rows: &[(Name, Lease)]) {
     let mut number = 0u32;
     for (name, lease) in rows {
-        let (wanted, wanted_lease) = row(number)?;
+        let (wanted, wanted_lease) = row(rt, number);
         expect_in(rt, &number, *name == wanted && *lease == wanted_lease);
         number = number.saturating_add(1);
     }
-    Ok(())
 }
 
 /// Loads octets, once more if it was out of memory.
@@ -123,11 +108,11 @@ fn load_again(alloc: Global, octets: &[u8]) -> Result<Loaded, ReadFault> {
 }
 
 /// How many changes the octets of a file have, and the time at which it was written.
-fn loaded(rt: &(impl Abort + AllocGlobal), octets: &[u8]) -> Result<(usize, u64), Fail> {
-    let loaded = load_again(rt.alloc(), octets)?;
-    see_rows(rt, loaded.rows.as_slice())?;
-    let changes = loaded.rows.len().checked_sub(1).ok_or("no lease")?;
-    Ok((changes, loaded.header.last))
+fn loaded(rt: &(impl Abort + AllocGlobal), octets: &[u8]) -> (usize, u64) {
+    let loaded = load_again(rt.alloc(), octets).expect(rt, "load again");
+    see_rows(rt, loaded.rows.as_slice());
+    let changes = loaded.rows.len().checked_sub(1).expect(rt, "a lease");
+    (changes, loaded.header.last)
 }
 
 /// Octets that a crash may leave have the changes that are durable, and none that wasn't tried. Returns when they were written.
@@ -136,12 +121,12 @@ fn see_octets(
     failing: Failing,
     octets: &[u8],
     counts: (usize, usize),
-) -> Result<u64, Fail> {
+) -> u64 {
     let (durable, tried) = counts;
-    let (changes, last) = loaded(rt, octets)?;
+    let (changes, last) = loaded(rt, octets);
     let seen = (failing, octets.len(), durable, changes, tried);
     expect_in(rt, &seen, durable <= changes && changes <= tried);
-    Ok(last)
+    last
 }
 
 /// The same of all octets that a crash may leave. Returns whether it may leave the file that was first written, and the one that was
@@ -151,17 +136,17 @@ fn see_left(
     failing: Failing,
     disk: &MemoryDisk,
     counts: (usize, usize),
-) -> Result<(bool, bool), Fail> {
+) -> (bool, bool) {
     let mut found = (false, false);
     expect(rt, disk.left(MANY).is_none());
     for number in 0..MANY {
         let Some(octets) = disk.left(number) else {
-            return Ok(found);
+            return found;
         };
-        let last = see_octets(rt, failing, octets, counts)?;
+        let last = see_octets(rt, failing, octets, counts);
         found = (found.0 || last == OLD, found.1 || last == NEW);
     }
-    Ok(found)
+    found
 }
 
 /// Opens a store with these leases over a disk with this trouble.
@@ -189,46 +174,50 @@ fn open_again(
 }
 
 /// Makes the changes with this trouble. Returns the store, and how many changes are durable and how many were tried.
-fn make(alloc: Global, failing: Failing) -> Result<(DiskStore<MemoryDisk>, (usize, usize)), Fail> {
-    let rows = [row(0)?, row(1)?, row(2)?, row(3)?];
-    let mut store = open_again(alloc, failing, &header(OLD)?, &rows[..1])?;
-    let counts = run(&mut store, &header(NEW)?, &rows)?;
-    Ok((store, counts))
+fn make(
+    rt: &impl Abort,
+    alloc: Global,
+    failing: Failing,
+) -> (DiskStore<MemoryDisk>, (usize, usize)) {
+    let rows = [row(rt, 0), row(rt, 1), row(rt, 2), row(rt, 3)];
+    let mut store = open_again(alloc, failing, &header(rt, OLD), &rows[..1]).expect(
+        rt,
+        "open again",
+    );
+    let counts = run(rt, &mut store, &header(rt, NEW), &rows);
+    (store, counts)
 }
 
 /// The same, and sees what a crash may leave. Returns how many changes are durable, and which files a crash may leave.
-fn crash(rt: &(impl Abort + AllocGlobal), failing: Failing) -> Result<(usize, (bool, bool)), Fail> {
-    let (store, counts) = make(rt.alloc(), failing)?;
-    let found = see_left(rt, failing, store.disk(), counts)?;
-    Ok((counts.0, found))
+fn crash(rt: &(impl Abort + AllocGlobal), failing: Failing) -> (usize, (bool, bool)) {
+    let (store, counts) = make(rt, rt.alloc(), failing);
+    let found = see_left(rt, failing, store.disk(), counts);
+    (counts.0, found)
 }
 
 /// A write is torn behind each octet of its line: what is then there is what a crash may leave.
-fn tear(rt: &(impl Abort + AllocGlobal), call: usize) -> Result<(), Fail> {
+fn tear(rt: &(impl Abort + AllocGlobal), call: usize) {
     for most in 0..LINE {
         let failing = (call, Trouble::Torn(most));
-        let (store, counts) = make(rt.alloc(), failing)?;
-        see_octets(rt, failing, store.disk().octets(), counts)?;
+        let (store, counts) = make(rt, rt.alloc(), failing);
+        see_octets(rt, failing, store.disk().octets(), counts);
     }
-    Ok(())
 }
 
 #[test]
-fn crash_of_a_store_at_each_call(rt: HostRuntime) -> Result<(), Fail> {
+fn crash_of_a_store_at_each_call(rt: HostRuntime) {
     for call in CHANGES..CALLS {
-        crash(&rt, (call, Trouble::Refused))?;
-        crash(&rt, (call, Trouble::Torn(0)))?;
-        crash(&rt, (call, Trouble::Full(20)))?;
+        crash(&rt, (call, Trouble::Refused));
+        crash(&rt, (call, Trouble::Torn(0)));
+        crash(&rt, (call, Trouble::Full(20)));
     }
-    Ok(())
 }
 
 #[test]
-fn crash_of_a_store_within_each_write(rt: HostRuntime) -> Result<(), Fail> {
+fn crash_of_a_store_within_each_write(rt: HostRuntime) {
     for call in WRITES {
-        tear(&rt, call)?;
+        tear(&rt, call);
     }
-    Ok(())
 }
 
 /// A trouble, how many changes are durable, and whether a crash may leave the old file and the new one.
@@ -251,38 +240,40 @@ const LEFT: &[Left] = &[
 ];
 
 /// Plays each row.
-fn see_each(rt: &(impl Abort + AllocGlobal), rows: &[Left]) -> Result<(), Fail> {
+fn see_each(rt: &(impl Abort + AllocGlobal), rows: &[Left]) {
     for row in rows {
         let (failing, durable, files) = *row;
-        expect_eq_in(rt, row, &crash(rt, failing)?, &(durable, files));
+        expect_eq_in(rt, row, &crash(rt, failing), &(durable, files));
     }
-    Ok(())
 }
 
 #[test]
-fn crash_of_a_store_leaves_the_old_file_or_the_new_one(rt: HostRuntime) -> Result<(), Fail> {
+fn crash_of_a_store_leaves_the_old_file_or_the_new_one(rt: HostRuntime) {
     see_each(&rt, LEFT)
 }
 
 /// A store isn't opened where its file can't be written, synced or put in its place.
 #[test]
-fn store_that_can_not_be_opened(rt: HostRuntime) -> Result<(), Fail> {
-    let rows = [row(0)?];
+fn store_that_can_not_be_opened(rt: HostRuntime) {
+    let rows = [row(&rt, 0)];
     for call in 0..CHANGES {
-        let opened = open(rt.alloc(), (call, Trouble::Torn(20)), &header(OLD)?, &rows);
+        let opened = open(
+            rt.alloc(),
+            (call, Trouble::Torn(20)),
+            &header(&rt, OLD),
+            &rows,
+        );
         expect_in(&rt, &call, opened.is_err());
     }
-    Ok(())
 }
 
 /// With `rt try --test --fail-alloc N` the Nth allocation is refused. A store that was refused memory loses no change that is
 /// durable, and one more has all changes.
 #[test]
-fn refused_memory_of_a_store(rt: HostRuntime) -> Result<(), Fail> {
+fn refused_memory_of_a_store(rt: HostRuntime) {
     let failing = (CALLS, Trouble::Refused);
-    let (durable, _) = crash(&rt, failing)?;
+    let (durable, _) = crash(&rt, failing);
     if durable < 6 {
-        expect_eq_in(&rt, &failing, &crash(&rt, failing)?, &(6, (false, true)));
+        expect_eq_in(&rt, &failing, &crash(&rt, failing), &(6, (false, true)));
     }
-    Ok(())
 }

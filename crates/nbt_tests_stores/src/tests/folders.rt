@@ -2,63 +2,71 @@
 
 use super::expect::{expect, expect_eq, expect_eq_in};
 use nbt_front::{FixedNames, Front};
-use nbt_lease::{Config, Lease};
+use nbt_lease::{Config, Lease, Moment};
 use nbt_name::{Addr, Kind, Name};
 use nbt_nbns::NbnsArguments;
 use nbt_port::{Bind, Fault};
 use nbt_state::{FolderStore, ServerArguments, StateFolder, run_server};
 use nbt_store::{Boot, Broken, Change, DiskStore, Header, Store, SystemDisk, load, this_boot};
-use nbt_testing::{config, moment};
+use nbt_testing::config;
 use std::fs::File;
 use std::net::Net;
 use std::os::unix::fs::symlink;
 use std::process::Abort;
 use std::rt::Files;
-use std::test::Fail;
 use std::{env, fs, io, process, time};
 
 /// A path in the folder for temporary files that no other test has.
-fn path_for(rt: &HostRuntime, name: &str) -> Result<String, Fail> {
-    let folder = env::temp_dir(rt)?;
-    let folder = folder.as_path().to_str().ok_or("no text")?;
+fn path_for(rt: &HostRuntime, name: &str) -> Option<String> {
+    let folder = env::temp_dir(rt).ok()?;
+    let folder = folder.as_path().to_str()?;
     let id = process::id(rt.process());
-    Ok(format!(in rt.alloc(); "{folder}/nbt-{id}-{name}")?)
+    format!(in rt.alloc(); "{folder}/nbt-{id}-{name}").ok()
 }
 
 /// The path of a file of a folder.
-fn path_in<R: AllocGlobal + Files>(rt: &R, folder: &str, name: &str) -> Result<String, Fail> {
-    Ok(format!(in rt.alloc(); "{folder}/{name}")?)
+fn path_in<R: Abort + AllocGlobal + Files>(rt: &R, folder: &str, name: &str) -> String {
+    format!(in rt.alloc(); "{folder}/{name}").expect(rt, "memory")
 }
 
 /// The text of a file of a folder; none where there is no such file.
-fn text_in<R: AllocGlobal + Files>(
-    rt: &R,
-    folder: &str,
-    name: &str,
-) -> Result<Option<String>, Fail> {
-    let path = path_in(rt, folder, name)?;
-    Ok(fs::read_to_string(rt, path.as_str()).ok())
+fn text_in<R: Abort + AllocGlobal + Files>(rt: &R, folder: &str, name: &str) -> Option<String> {
+    let path = path_in(rt, folder, name);
+    fs::read_to_string(rt, path.as_str()).ok()
 }
 
-fn row() -> Result<(Name, Lease), Fail> {
+fn row(rt: &impl Abort) -> (Name, Lease) {
     let lease = Lease {
         addr: 0x7F00_0002,
         kind: Kind::Unique,
         end: 60_000,
     };
-    Ok((Name::new(b"FRED            ", b"")?, lease))
+    (
+        Name::new(b"FRED            ", b"").expect(rt, "a name"),
+        lease,
+    )
 }
 
-fn header() -> Result<Header, Fail> {
-    let boot = Boot::new(b"boot-1").ok_or("no boot")?;
-    let now = moment(5)?;
-    Ok(Header::new(Config::new(1_000, 60, 16)?, boot, 0, now, now, 1))
+fn header(rt: &impl Abort) -> Header {
+    let boot = Boot::new(b"boot-1").expect(rt, "a boot");
+    let now = Moment::new(5).expect(rt, "a moment");
+    Header::new(
+        Config::new(1_000, 60, 16).expect(rt, "limits"),
+        boot,
+        0,
+        now,
+        now,
+        1,
+    )
 }
 
 /// How many leases the file of a folder has.
-fn kept<R: AllocGlobal + Files>(rt: &R, folder: &str) -> Result<usize, Fail> {
-    let text = text_in(rt, folder, "leases")?.ok_or("no file")?;
-    Ok(load(rt.alloc(), text.as_bytes())?.rows.len())
+fn kept<R: Abort + AllocGlobal + Files>(rt: &R, folder: &str) -> usize {
+    let text = text_in(rt, folder, "leases").expect(rt, "a file");
+    load(rt.alloc(), text.as_bytes())
+        .expect(rt, "load")
+        .rows
+        .len()
 }
 
 /// More changes of a lease than a short file has, and than 64 KiB hold.
@@ -69,26 +77,27 @@ fn expect_long<R: Abort + AllocGlobal + Files + time::Clock>(
     rt: &R,
     folder: &str,
     store: &mut FolderStore<'_, R>,
-) -> Result<(), Fail> {
-    let rows = [row()?];
+) {
+    let rows = [row(rt)];
     expect(rt, !store.is_long());
     for _ in 0..MANY {
-        let (name, lease) = row()?;
+        let (name, lease) = row(rt);
         let (addr, end) = (lease.addr, lease.end);
-        store.append(&Change::Moved { name, addr, end })?;
+        store
+            .append(&Change::Moved { name, addr, end })
+            .expect(rt, "memory");
     }
     expect(rt, store.is_long());
     expect(rt, store.error().is_none());
-    symlink(rt, "/dev/full", path_in(rt, folder, "leases.new")?.as_str())?;
-    expect_eq(rt, &store.renew(&header()?, &rows), &Err(Broken));
+    symlink(rt, "/dev/full", path_in(rt, folder, "leases.new").as_str()).expect(rt, "a link");
+    expect_eq(rt, &store.renew(&header(rt), &rows), &Err(Broken));
     match store.error() {
         Some(error) => {
-            let said = format!(in rt.alloc(); "{error}")?;
+            let said = format!(in rt.alloc(); "{error}").expect(rt, "memory");
             expect_eq(rt, &said.as_str(), &"leases.new is no regular file");
         }
         None => expect(rt, false),
     }
-    Ok(())
 }
 
 /// The lease of a store goes, and begins again in a file that is written anew.
@@ -97,17 +106,18 @@ fn expect_changes<R: Abort + AllocGlobal + Files<File = File> + time::Clock>(
     folder: &str,
     store: &mut FolderStore<'_, R>,
     rows: &[(Name, Lease)],
-) -> Result<(), Fail> {
-    let (name, lease) = row()?;
+) {
+    let (name, lease) = row(rt);
     let addr = lease.addr;
-    expect_eq(rt, &kept(rt, folder)?, &1);
-    store.append(&Change::Released { name, addr })?;
-    store.sync()?;
-    expect_eq(rt, &kept(rt, folder)?, &0);
-    store.renew(&header()?, rows)?;
-    expect_eq(rt, &kept(rt, folder)?, &1);
-    expect(rt, text_in(rt, folder, "leases.new")?.is_none());
-    Ok(())
+    expect_eq(rt, &kept(rt, folder), &1);
+    store
+        .append(&Change::Released { name, addr })
+        .expect(rt, "memory");
+    store.sync().expect(rt, "sync");
+    expect_eq(rt, &kept(rt, folder), &0);
+    store.renew(&header(rt), rows).expect(rt, "renew");
+    expect_eq(rt, &kept(rt, folder), &1);
+    expect(rt, text_in(rt, folder, "leases.new").is_none());
 }
 
 /// Nobody else may use the folder.
@@ -123,19 +133,16 @@ fn open_new<'a, R: Abort + AllocGlobal + Files<File = File> + time::Clock>(
     rt: &'a R,
     folder: &'a str,
     rows: &[(Name, Lease)],
-) -> Result<FolderStore<'a, R>, Fail> {
-    let disk = SystemDisk::open_folder(rt, rt.alloc(), folder)?;
-    expect(rt, disk.read(rt.alloc())?.is_none());
-    Ok(FolderStore::open(disk, rt.alloc(), &header()?, rows)?)
+) -> FolderStore<'a, R> {
+    let disk = SystemDisk::open_folder(rt, rt.alloc(), folder).expect(rt, "open folder");
+    expect(rt, disk.read(rt.alloc()).expect(rt, "read").is_none());
+    FolderStore::open(disk, rt.alloc(), &header(rt), rows).expect(rt, "open")
 }
 
-fn expect_kept<R: Abort + AllocGlobal + Files<File = File> + time::Clock>(
-    rt: &R,
-    folder: &str,
-) -> Result<(), Fail> {
-    let rows = [row()?];
-    let mut store = open_new(rt, folder, &rows)?;
-    expect_changes(rt, folder, &mut store, &rows)?;
+fn expect_kept<R: Abort + AllocGlobal + Files<File = File> + time::Clock>(rt: &R, folder: &str) {
+    let rows = [row(rt)];
+    let mut store = open_new(rt, folder, &rows);
+    expect_changes(rt, folder, &mut store, &rows);
     expect_used(rt, folder);
     expect_long(rt, folder, &mut store)
 }
@@ -146,56 +153,51 @@ fn set_aside<R: Abort + AllocGlobal + Files<File = File>>(
     folder: &str,
     disk: &mut SystemDisk<'_, R>,
     text: &str,
-) -> Result<(), Fail> {
-    fs::write(rt, path_in(rt, folder, "leases")?.as_str(), text)?;
-    disk.set_aside()?;
-    expect(rt, disk.read(rt.alloc())?.is_none());
-    let aside = text_in(rt, folder, "leases.bad")?.ok_or("nothing aside")?;
+) {
+    fs::write(rt, path_in(rt, folder, "leases").as_str(), text).expect(rt, "written");
+    disk.set_aside().expect(rt, "set aside");
+    expect(rt, disk.read(rt.alloc()).expect(rt, "read").is_none());
+    let aside = text_in(rt, folder, "leases.bad").expect(rt, "a file aside");
     expect_eq(rt, &aside.as_str(), &text);
-    Ok(())
 }
 
 /// All of a long file is read.
-fn expect_read<R: Abort + AllocGlobal + Files<File = File>>(
-    rt: &R,
-    disk: &SystemDisk<'_, R>,
-) -> Result<(), Fail> {
-    let octets = disk.read(rt.alloc())?.ok_or("no file")?;
+fn expect_read<R: Abort + AllocGlobal + Files<File = File>>(rt: &R, disk: &SystemDisk<'_, R>) {
+    let octets = disk
+        .read(rt.alloc())
+        .expect(rt, "read")
+        .expect(rt, "a file");
     expect(rt, octets.len() > 65_536);
-    let loaded = load(rt.alloc(), octets.as_slice())?;
+    let loaded = load(rt.alloc(), octets.as_slice()).expect(rt, "load");
     expect_eq(rt, &loaded.rows.len(), &1);
-    Ok(())
 }
 
-fn expect_aside<R: Abort + AllocGlobal + Files<File = File>>(
-    rt: &R,
-    folder: &str,
-) -> Result<(), Fail> {
-    let mut disk = SystemDisk::open_folder(rt, rt.alloc(), folder)?;
-    expect_read(rt, &disk)?;
-    set_aside(rt, folder, &mut disk, "one")?;
+fn expect_aside<R: Abort + AllocGlobal + Files<File = File>>(rt: &R, folder: &str) {
+    let mut disk = SystemDisk::open_folder(rt, rt.alloc(), folder).expect(rt, "open folder");
+    expect_read(rt, &disk);
+    set_aside(rt, folder, &mut disk, "one");
     set_aside(rt, folder, &mut disk, "two")
 }
 
 #[test]
-fn a_folder_keeps_leases(rt: HostRuntime) -> Result<(), Fail> {
-    let folder = path_for(&rt, "folder")?;
-    fs::create_dir(&rt, folder.as_str())?;
-    expect_kept(&rt, folder.as_str())?;
-    expect_aside(&rt, folder.as_str())?;
-    fs::remove_dir_all(&rt, folder.as_str())?;
-    Ok(())
+fn a_folder_keeps_leases(rt: HostRuntime) {
+    let folder = path_for(&rt, "folder").expect(&rt, "a path");
+    fs::create_dir(&rt, folder.as_str()).expect(&rt, "a folder");
+    expect_kept(&rt, folder.as_str());
+    expect_aside(&rt, folder.as_str());
+    fs::remove_dir_all(&rt, folder.as_str()).expect(&rt, "removed");
 }
 
 /// The id is that of this boot, as long as it lasts.
 #[test]
-fn the_boot_of_this_machine(rt: HostRuntime) -> Result<(), Fail> {
-    let text = fs::read_to_string(&rt, "/proc/sys/kernel/random/boot_id")?;
+fn the_boot_of_this_machine(rt: HostRuntime) {
+    let text = fs::read_to_string(&rt, "/proc/sys/kernel/random/boot_id").expect(&rt, "its text");
     for _ in 0..2 {
-        let boot = this_boot(&rt, rt.alloc())?.ok_or("no boot")?;
+        let boot = this_boot(&rt, rt.alloc())
+            .expect(&rt, "this boot")
+            .expect(&rt, "a boot");
         expect_eq(&rt, &boot.octets(), &text.as_str().trim_end().as_bytes());
     }
-    Ok(())
 }
 
 /// What stands in a folder before a server starts over it.
@@ -329,45 +331,47 @@ static BEGINS: [(There, Comes); 15] = [
 ];
 
 /// Puts what is to stand in a folder.
-fn put<R: AllocGlobal + Files>(rt: &R, folder: &str, there: There) -> Result<(), Fail> {
+fn put<R: Abort + AllocGlobal + Files>(rt: &R, folder: &str, there: There) {
     match there {
-        There::NoFolder => return Ok(()),
-        There::File => return Ok(fs::write(rt, folder, "a file")?),
-        _ => fs::create_dir(rt, folder)?,
+        There::NoFolder => return,
+        There::File => return fs::write(rt, folder, "a file").expect(rt, "written"),
+        _ => fs::create_dir(rt, folder).expect(rt, "a folder"),
     }
     match there {
         There::Folder(name) => put_folder(rt, folder, name),
-        There::Link(name) => Ok(symlink(rt, "nowhere", path_in(rt, folder, name)?.as_str())?),
+        There::Link(name) => symlink(rt, "nowhere", path_in(rt, folder, name).as_str()).expect(
+            rt, "a link",
+        ),
         There::Leases(text) => put_leases(rt, folder, text),
         There::LeasesAndFolder(text) => {
-            put_leases(rt, folder, text)?;
+            put_leases(rt, folder, text);
             put_folder(rt, folder, "leases.bad")
         }
-        _ => Ok(()),
+        _ => (),
     }
 }
 
 /// Puts a folder into a folder.
-fn put_folder<R: AllocGlobal + Files>(rt: &R, folder: &str, name: &str) -> Result<(), Fail> {
-    Ok(fs::create_dir(rt, path_in(rt, folder, name)?.as_str())?)
+fn put_folder<R: Abort + AllocGlobal + Files>(rt: &R, folder: &str, name: &str) {
+    fs::create_dir(rt, path_in(rt, folder, name).as_str()).expect(rt, "a folder")
 }
 
 /// Puts a file of leases there.
-fn put_leases<R: AllocGlobal + Files>(rt: &R, folder: &str, text: &str) -> Result<(), Fail> {
-    Ok(fs::write(rt, path_in(rt, folder, "leases")?.as_str(), text)?)
+fn put_leases<R: Abort + AllocGlobal + Files>(rt: &R, folder: &str, text: &str) {
+    fs::write(rt, path_in(rt, folder, "leases").as_str(), text).expect(rt, "written")
 }
 
 /// A server over a folder of this machine, at a port that no other test has, which ends after its first turn.
-fn arguments<R: AllocGlobal>(rt: &R, folder: &str) -> Result<ServerArguments, Fail> {
+fn arguments<R: Abort + AllocGlobal>(rt: &R, folder: &str) -> ServerArguments {
     let here = Addr {
         ip: 0x7F2A_1707,
         port: 20_197,
     };
     let none = FixedNames::none(rt.alloc());
-    Ok(ServerArguments {
+    ServerArguments {
         nbns: NbnsArguments {
-            bind: Bind::To(vec![in rt.alloc(); here]?),
-            config: config(16)?,
+            bind: Bind::To(vec![in rt.alloc(); here].expect(rt, "memory")),
+            config: config(16).expect(rt, "limits"),
             time: Some(0),
             log: false,
             broadcasts: false,
@@ -376,36 +380,36 @@ fn arguments<R: AllocGlobal>(rt: &R, folder: &str) -> Result<ServerArguments, Fa
             stats: None,
             strict: false,
             rows_per_client: 64,
-            front: Front::new(Vec::new(rt.alloc()), none, config(16)?),
+            front: Front::new(Vec::new(rt.alloc()), none, config(16).expect(rt, "limits")),
         },
         state: Some(StateFolder {
-            path: String::from_str(rt.alloc(), folder)?,
+            path: String::from_str(rt.alloc(), folder).expect(rt, "memory"),
             silent_after_boot: false,
         }),
-    })
+    }
 }
 
 /// Runs it. Returns how it ended, what it printed, and what it said.
-fn run<R: AllocGlobal + Net + time::Clock + Files<File = File>>(
+fn run<R: Abort + AllocGlobal + Net + time::Clock + Files<File = File>>(
     rt: &R,
     folder: &str,
-) -> Result<(Result<(), Fault>, Vec<u8>, Vec<u8>), Fail> {
+) -> (Result<(), Fault>, Vec<u8>, Vec<u8>) {
     let mut printed = Vec::new(rt.alloc());
     let mut errors = Vec::new(rt.alloc());
-    let arguments = arguments(rt, folder)?;
+    let arguments = arguments(rt, folder);
     let ended = run_server(rt, rt.alloc(), &arguments, &mut printed, &mut errors);
-    Ok((ended, printed, errors))
+    (ended, printed, errors)
 }
 
 /// The same, while another has the folder or not.
-fn run_at<R: AllocGlobal + Net + time::Clock + Files<File = File>>(
+fn run_at<R: Abort + AllocGlobal + Net + time::Clock + Files<File = File>>(
     rt: &R,
     folder: &str,
     there: There,
-) -> Result<(Result<(), Fault>, Vec<u8>, Vec<u8>), Fail> {
+) -> (Result<(), Fault>, Vec<u8>, Vec<u8>) {
     match there {
         There::Used => {
-            let _other = SystemDisk::open_folder(rt, rt.alloc(), folder)?;
+            let _other = SystemDisk::open_folder(rt, rt.alloc(), folder).expect(rt, "open folder");
             run(rt, folder)
         }
         _ => run(rt, folder),
@@ -420,44 +424,41 @@ fn expect_end<R: Abort + AllocGlobal>(
     before: &str,
     after: &str,
     came: &(Result<(), Fault>, Vec<u8>, Vec<u8>),
-) -> Result<(), Fail> {
-    let said = format!(in rt.alloc(); "{before}{folder}{after}")?;
+) {
+    let said = format!(in rt.alloc(); "{before}{folder}{after}").expect(rt, "memory");
     expect_eq_in(rt, row, &came.0, &Err(Fault::Store));
     expect_eq_in(rt, row, &came.1.len(), &0);
     expect_eq_in(rt, row, &came.2.as_slice(), &said.as_bytes());
-    Ok(())
 }
 
 fn expect_row<R: Abort + AllocGlobal + Net + time::Clock + Files<File = File>>(
     rt: &R,
     row: &(There, Comes),
     folder: &str,
-) -> Result<(), Fail> {
-    put(rt, folder, row.0)?;
-    let came = run_at(rt, folder, row.0)?;
+) {
+    put(rt, folder, row.0);
+    let came = run_at(rt, folder, row.0);
     match row.1 {
         Comes::Ends(before, after) => expect_end(rt, row, folder, before, after, &came),
         Comes::Begins(since, aside) => {
             expect_eq_in(rt, row, &came.0, &Ok(()));
             expect(rt, came.1.as_slice().ends_with(since.as_bytes()));
             expect_eq_in(rt, row, &came.2.len(), &0);
-            let text = text_in(rt, folder, "leases.bad")?;
+            let text = text_in(rt, folder, "leases.bad");
             expect_eq_in(rt, row, &text.as_ref().map(|text| text.as_str()), &aside);
-            Ok(())
         }
     }
 }
 
 #[test]
-fn what_a_server_finds_in_a_folder(rt: HostRuntime) -> Result<(), Fail> {
-    let folder = path_for(&rt, "found")?;
+fn what_a_server_finds_in_a_folder(rt: HostRuntime) {
+    let folder = path_for(&rt, "found").expect(&rt, "a path");
     for row in &BEGINS {
-        expect_row(&rt, row, folder.as_str())?;
+        expect_row(&rt, row, folder.as_str());
         // (a row may have no folder, or a file there)
         let _ = fs::remove_dir_all(&rt, folder.as_str());
         let _ = fs::remove_file(&rt, folder.as_str());
     }
-    Ok(())
 }
 
 /// The first line of a server over this folder can't be written, and it says so.
@@ -465,85 +466,83 @@ fn expect_unwritten<R: Abort + AllocGlobal + Net + time::Clock + Files<File = Fi
     rt: &R,
     folder: &str,
     errors: &mut Vec<u8>,
-) -> Result<(), Fail> {
+) {
     let mut room = [0; 8];
-    let arguments = arguments(rt, folder)?;
+    let arguments = arguments(rt, folder);
     let ended = run_server(rt, rt.alloc(), &arguments, &mut &mut room[..], errors);
     expect_eq(rt, &ended, &Err(Fault::Output));
     let said = b"nbt: the first line can't be written: failed to write whole buffer\n";
     expect_eq(rt, &errors.as_slice(), &said.as_slice());
-    Ok(())
 }
 
 #[test]
-fn a_first_line_of_a_kept_server_that_can_not_be_written(rt: HostRuntime) -> Result<(), Fail> {
-    let folder = path_for(&rt, "unwritten")?;
+fn a_first_line_of_a_kept_server_that_can_not_be_written(rt: HostRuntime) {
+    let folder = path_for(&rt, "unwritten").expect(&rt, "a path");
     let folder = folder.as_str();
-    fs::create_dir(&rt, folder)?;
-    expect_unwritten(&rt, folder, &mut Vec::new(rt.alloc()))?;
-    fs::remove_dir_all(&rt, folder)?;
-    Ok(())
+    fs::create_dir(&rt, folder).expect(&rt, "a folder");
+    expect_unwritten(&rt, folder, &mut Vec::new(rt.alloc()));
+    fs::remove_dir_all(&rt, folder).expect(&rt, "removed");
 }
 
 /// Runs a server whose statistics go to the file `lock` of its folder. Returns how it ended, and what it said.
-fn run_over_lock<R: AllocGlobal + Net + time::Clock + Files<File = File>>(
+fn run_over_lock<R: Abort + AllocGlobal + Net + time::Clock + Files<File = File>>(
     rt: &R,
     folder: &str,
-) -> Result<(Result<(), Fault>, Vec<u8>), Fail> {
-    let mut arguments = arguments(rt, folder)?;
-    arguments.nbns.stats = Some(path_in(rt, folder, "lock")?);
+) -> (Result<(), Fault>, Vec<u8>) {
+    let mut arguments = arguments(rt, folder);
+    arguments.nbns.stats = Some(path_in(rt, folder, "lock"));
     let mut printed = Vec::new(rt.alloc());
     let mut errors = Vec::new(rt.alloc());
     let ended = run_server(rt, rt.alloc(), &arguments, &mut printed, &mut errors);
-    Ok((ended, errors))
+    (ended, errors)
 }
 
 /// Statistics aren't put in place of the lock of this folder, which says what it is.
 fn expect_locked<R: Abort + AllocGlobal + Net + time::Clock + Files<File = File>>(
     rt: &R,
     folder: &str,
-) -> Result<(), Fail> {
-    let (ended, errors) = run_over_lock(rt, folder)?;
+) {
+    let (ended, errors) = run_over_lock(rt, folder);
     expect_eq(rt, &ended, &Err(Fault::Output));
     let why = b"its first line isn't '# statistics of nbt nbns': name another file\n";
     expect(rt, errors.as_slice().ends_with(why));
-    let text = text_in(rt, folder, "lock")?;
+    let text = text_in(rt, folder, "lock");
     let text = text.as_ref().map(|text| text.as_str());
     expect_eq(rt, &text, &Some("# lock of nbt nbns\n"));
-    Ok(())
 }
 
 /// A lock that something else replaced would let a second server in: one that wasn't there before, and an empty one, as an earlier
 /// version left it.
 #[test]
-fn nothing_is_put_in_place_of_a_lock(rt: HostRuntime) -> Result<(), Fail> {
-    let folder = path_for(&rt, "locked")?;
+fn nothing_is_put_in_place_of_a_lock(rt: HostRuntime) {
+    let folder = path_for(&rt, "locked").expect(&rt, "a path");
     let folder = folder.as_str();
-    fs::create_dir(&rt, folder)?;
-    expect_locked(&rt, folder)?;
-    fs::write(&rt, path_in(&rt, folder, "lock")?.as_str(), "")?;
-    expect_locked(&rt, folder)?;
-    fs::remove_dir_all(&rt, folder)?;
-    Ok(())
+    fs::create_dir(&rt, folder).expect(&rt, "a folder");
+    expect_locked(&rt, folder);
+    fs::write(&rt, path_in(&rt, folder, "lock").as_str(), "").expect(&rt, "written");
+    expect_locked(&rt, folder);
+    fs::remove_dir_all(&rt, folder).expect(&rt, "removed");
 }
 
 /// Whether a store in this folder, which is opened and then synced once more, counts two syncs, and the time that each took.
-fn counts_syncs(rt: &HostRuntime, folder: &str) -> Result<bool, Fail> {
-    let disk = SystemDisk::open_folder(rt, rt.alloc(), folder)?;
-    let mut store = DiskStore::open(disk, rt.alloc(), &header()?, &[])?;
+fn counts_syncs<R: Abort + AllocGlobal + time::Clock + Files<File = File>>(
+    rt: &R,
+    folder: &str,
+) -> bool {
+    let disk = SystemDisk::open_folder(rt, rt.alloc(), folder).expect(rt, "open folder");
+    let mut store = DiskStore::open(disk, rt.alloc(), &header(rt), &[]).expect(rt, "open");
     let first = store.syncs();
-    store.sync()?;
+    store.sync().expect(rt, "sync");
     let second = store.syncs();
     let counts = first.count == 1 && second.count == 2;
     let lasts = 0 < first.nanoseconds && first.nanoseconds < second.nanoseconds;
-    Ok(counts && lasts && second.milliseconds() == second.nanoseconds / 1_000_000)
+    counts && lasts && second.milliseconds() == second.nanoseconds / 1_000_000
 }
 
 #[test]
-fn a_folder_counts_its_syncs(rt: HostRuntime) -> Result<(), Fail> {
-    let folder = path_for(&rt, "syncs")?;
-    fs::create_dir(&rt, folder.as_str())?;
-    expect(&rt, counts_syncs(&rt, folder.as_str())?);
-    fs::remove_dir_all(&rt, folder.as_str())?;
-    Ok(())
+fn a_folder_counts_its_syncs(rt: HostRuntime) {
+    let folder = path_for(&rt, "syncs").expect(&rt, "a path");
+    fs::create_dir(&rt, folder.as_str()).expect(&rt, "a folder");
+    expect(&rt, counts_syncs(&rt, folder.as_str()));
+    fs::remove_dir_all(&rt, folder.as_str()).expect(&rt, "removed");
 }

@@ -15,7 +15,6 @@ use std::fs::{File, Metadata, OpenOptions};
 use std::net::{Net, SocketAddr, UdpSocket};
 use std::process::Abort;
 use std::rt::Files;
-use std::test::Fail;
 use std::time::Duration;
 use std::{env, fs, io, process, time};
 
@@ -175,11 +174,11 @@ impl<'a, N: Files> Files for Machine<'a, N> {
 }
 
 /// A path in the folder for temporary files that no other test has.
-pub(super) fn path_for(rt: &HostRuntime, name: &str) -> Result<String, Fail> {
-    let folder = env::temp_dir(rt)?;
-    let folder = folder.as_path().to_str().ok_or("no text")?;
+pub(super) fn path_for(rt: &HostRuntime, name: &str) -> Option<String> {
+    let folder = env::temp_dir(rt).ok()?;
+    let folder = folder.as_path().to_str()?;
     let id = process::id(rt.process());
-    Ok(format!(in rt.alloc(); "{folder}/nbt-{id}-{name}")?)
+    format!(in rt.alloc(); "{folder}/nbt-{id}-{name}").ok()
 }
 
 /// The port of the first test, and that of the second one.
@@ -252,13 +251,17 @@ fn expect_served<R: Abort + AllocGlobal, M: Net + Files + time::Clock>(
     about: &Look,
     port: &UdpPorts<'_, M>,
     served: &[u32],
-) -> Result<(), Fail> {
+) {
     let mut wanted = Vec::new(rt.alloc());
     for last in served {
-        wanted.push(at(*last))?;
+        wanted.push(at(*last)).expect(rt, "memory");
     }
-    expect_eq_in(rt, about, &port.addresses()?.as_slice(), &wanted.as_slice());
-    Ok(())
+    expect_eq_in(
+        rt,
+        about,
+        &port.addresses().expect(rt, "addresses").as_slice(),
+        &wanted.as_slice(),
+    );
 }
 
 /// Receives without waiting.
@@ -276,16 +279,20 @@ fn expect_looks<R: Abort + AllocGlobal, N: Net + Files>(
     machine: &Machine<'_, N>,
     port: &mut UdpPorts<'_, Machine<'_, N>>,
     looks: &[Look],
-) -> Result<(), Fail> {
+) {
     for look in looks {
         let (now, list, served, said) = *look;
         machine.since_boot.set(now);
-        fs::write(machine.host, machine.list, list)?;
-        expect_eq_in(rt, look, &receive(rt, port, &mut ArrayVec::new())?, &None);
+        fs::write(machine.host, machine.list, list).expect(rt, "written");
+        expect_eq_in(
+            rt,
+            look,
+            &receive(rt, port, &mut ArrayVec::new()).expect(rt, "received"),
+            &None,
+        );
         expect_said(rt, look, port, said);
-        expect_served(rt, look, port, served)?;
+        expect_served(rt, look, port, served);
     }
-    Ok(())
 }
 
 /// This is said of what changed.
@@ -307,33 +314,35 @@ const HOST: Addr = Addr {
 };
 
 /// What a host sends to an address that came comes, and the reply leaves from there.
-fn expect_reply<R: Abort, P: Port>(
-    rt: &R,
-    port: &mut P,
-    host: &mut UdpPort,
-    to: Addr,
-) -> Result<(), Fail> {
+fn expect_reply<R: Abort, P: Port>(rt: &R, port: &mut P, host: &mut UdpPort, to: Addr) {
     let mut octets = ArrayVec::new();
     expect(rt, host.failures() < 1 << 62);
-    host.send(to, b"hello")?;
-    expect_eq(rt, &receive(rt, port, &mut octets)?, &Some(HOST));
+    host.send(to, b"hello").expect(rt, "sent");
+    expect_eq(
+        rt,
+        &receive(rt, port, &mut octets).expect(rt, "received"),
+        &Some(HOST),
+    );
     expect(rt, port.failures() < 1 << 62);
-    port.send(HOST, b"reply")?;
-    expect_eq(rt, &receive(rt, host, &mut octets)?, &Some(to));
+    port.send(HOST, b"reply").expect(rt, "sent");
+    expect_eq(
+        rt,
+        &receive(rt, host, &mut octets).expect(rt, "received"),
+        &Some(to),
+    );
     expect_eq(rt, &octets.as_slice(), &b"reply".as_slice());
-    Ok(())
 }
 
 #[test]
-fn addresses_that_come_and_go(rt: HostRuntime) -> Result<(), Fail> {
-    let list = path_for(&rt, "come-and-go")?;
+fn addresses_that_come_and_go(rt: HostRuntime) {
+    let list = path_for(&rt, "come-and-go").expect(&rt, "a path");
     let machine = machine_of(&rt, list.as_str(), 1_000);
     let bind = Bind::Every(PORT);
     let mut errors = Vec::new(rt.alloc());
-    fs::write(&rt, list.as_str(), ONE_AND_TWO)?;
-    let mut port = UdpPorts::bind(&machine, rt.alloc(), &bind, &mut errors)?;
+    fs::write(&rt, list.as_str(), ONE_AND_TWO).expect(&rt, "written");
+    let mut port = UdpPorts::bind(&machine, rt.alloc(), &bind, &mut errors).expect(&rt, "bound");
     expect(&rt, errors.is_empty());
-    expect_followed(&rt, &machine, &mut port, list.as_str())?;
+    expect_followed(&rt, &machine, &mut port, list.as_str());
     expect_told_over_another(&rt, &machine, SambaPort::new(port), list.as_str())
 }
 
@@ -343,12 +352,12 @@ fn expect_followed<R: Abort + AllocGlobal + Net + Files>(
     machine: &Machine<'_, R>,
     port: &mut UdpPorts<'_, Machine<'_, R>>,
     list: &str,
-) -> Result<(), Fail> {
-    let mut host = UdpPort::bind(rt, HOST)?;
-    expect_looks(rt, machine, port, &LOOKS)?;
-    expect_reply(rt, port, &mut host, at(3))?;
+) {
+    let mut host = UdpPort::bind(rt, HOST).expect(rt, "bound");
+    expect_looks(rt, machine, port, &LOOKS);
+    expect_reply(rt, port, &mut host, at(3));
     // Without the list it keeps what it has.
-    fs::remove_file(rt, list)?;
+    fs::remove_file(rt, list).expect(rt, "removed");
     machine.since_boot.set(20_000);
     expect_reply(rt, port, &mut host, at(3))
 }
@@ -359,16 +368,19 @@ fn expect_told_over_another<R: Abort + AllocGlobal + Net + Files>(
     machine: &Machine<'_, R>,
     port: SambaPort<UdpPorts<'_, Machine<'_, R>>>,
     list: &str,
-) -> Result<(), Fail> {
+) {
     let mut port = port;
-    fs::write(rt, list, ONE)?;
+    fs::write(rt, list, ONE).expect(rt, "written");
     machine.since_boot.set(30_000);
-    expect_eq(rt, &receive(rt, &mut port, &mut ArrayVec::new())?, &None);
+    expect_eq(
+        rt,
+        &receive(rt, &mut port, &mut ArrayVec::new()).expect(rt, "received"),
+        &None,
+    );
     let mut errors = Vec::new(rt.alloc());
     port.tell_changes(&mut errors);
     expect_eq(rt, &errors.as_slice(), &ONE_FOR_THREE.as_bytes());
-    fs::remove_file(rt, list)?;
-    Ok(())
+    fs::remove_file(rt, list).expect(rt, "removed");
 }
 
 /// Which addresses a machine has, behind so many empty lines; what comes of a port that is to have them all, as the number of those that
@@ -415,46 +427,42 @@ const BEGINS: [Begin; 6] = [
 ];
 
 /// Writes a list behind empty lines, or removes it.
-fn put_list<R: AllocGlobal + Files>(
-    rt: &R,
-    path: &str,
-    list: Option<&str>,
-    lines: usize,
-) -> Result<(), Fail> {
+fn put_list<R: Abort + AllocGlobal + Files>(rt: &R, path: &str, list: Option<&str>, lines: usize) {
     let Some(list) = list else {
-        fs::remove_file(rt, path)?;
-        return Ok(());
+        fs::remove_file(rt, path).expect(rt, "removed");
+        return;
     };
-    let mut octets = Vec::from_elem(rt.alloc(), b'\n', lines)?;
-    octets.extend_from_slice(list.as_bytes())?;
-    fs::write(rt, path, octets.as_slice())?;
-    Ok(())
+    let mut octets = Vec::from_elem(rt.alloc(), b'\n', lines).expect(rt, "memory");
+    octets
+        .extend_from_slice(list.as_bytes())
+        .expect(rt, "memory");
+    fs::write(rt, path, octets.as_slice()).expect(rt, "written");
 }
 
 /// The 32-bit addresses that a port has at first.
-fn begun<R: AllocGlobal, M: Net + Files + time::Clock>(
+fn begun<R: Abort + AllocGlobal, M: Net + Files + time::Clock>(
     rt: &R,
     machine: &M,
     bind: &Bind,
     errors: &mut Vec<u8>,
-) -> Result<Result<Vec<u32>, Fault>, Fail> {
+) -> Result<Vec<u32>, Fault> {
     match UdpPorts::bind(machine, rt.alloc(), bind, errors) {
         Ok(mut port) => {
             // It said what there was to say.
             port.tell_changes(errors);
-            Ok(Ok(numbers_of(rt, port.addresses()?.as_slice())?))
+            Ok(numbers_of(rt, port.addresses().expect(rt, "addresses").as_slice()))
         }
-        Err(fault) => Ok(Err(fault)),
+        Err(fault) => Err(fault),
     }
 }
 
 /// The 32 bits of each address.
-fn numbers_of<R: AllocGlobal>(rt: &R, addresses: &[Addr]) -> Result<Vec<u32>, Fail> {
+fn numbers_of<R: Abort + AllocGlobal>(rt: &R, addresses: &[Addr]) -> Vec<u32> {
     let mut found = Vec::new(rt.alloc());
     for addr in addresses {
-        found.push(addr.ip)?;
+        found.push(addr.ip).expect(rt, "memory");
     }
-    Ok(found)
+    found
 }
 
 fn expect_begun<R: Abort>(
@@ -471,12 +479,12 @@ fn expect_begun<R: Abort>(
 }
 
 #[test]
-fn every_address_that_a_machine_lists(rt: HostRuntime) -> Result<(), Fail> {
-    let path = path_for(&rt, "every-address")?;
+fn every_address_that_a_machine_lists(rt: HostRuntime) {
+    let path = path_for(&rt, "every-address").expect(&rt, "a path");
     let machine = machine_of(&rt, path.as_str(), 0);
     let bind = Bind::Every(BEGUN);
     for row in &BEGINS {
-        expect_begin(&rt, &machine, path.as_str(), &bind, row)?;
+        expect_begin(&rt, &machine, path.as_str(), &bind, row);
     }
     expect_no_memory(&rt, &machine, path.as_str(), &bind)
 }
@@ -488,14 +496,13 @@ fn expect_begin<R: Abort + AllocGlobal + Net + Files>(
     path: &str,
     bind: &Bind,
     row: &Begin,
-) -> Result<(), Fail> {
+) {
     let (list, lines, wanted, said) = row;
-    put_list(rt, path, *list, *lines)?;
+    put_list(rt, path, *list, *lines);
     let mut errors = Vec::new(rt.alloc());
-    let found = begun(rt, machine, bind, &mut errors)?;
+    let found = begun(rt, machine, bind, &mut errors);
     expect_begun(rt, row, &found, wanted);
     expect_eq_in(rt, row, &errors.as_slice(), &said.as_bytes());
-    Ok(())
 }
 
 /// Where there is no memory for a socket, that is why there is none.
@@ -504,48 +511,43 @@ fn expect_no_memory<R: Abort + AllocGlobal + Net + Files>(
     machine: &Machine<'_, R>,
     path: &str,
     bind: &Bind,
-) -> Result<(), Fail> {
-    put_list(rt, path, Some(ONE), 0)?;
+) {
+    put_list(rt, path, Some(ONE), 0);
     machine.has_memory.set(false);
     let mut errors = Vec::new(rt.alloc());
-    let found = begun(rt, machine, bind, &mut errors)?;
+    let found = begun(rt, machine, bind, &mut errors);
     expect_eq(rt, &found.err(), &Some(Fault::Memory));
     expect_eq(
         rt,
         &errors.as_slice(),
         &b"nbt: 127.42.32.1:20196: out of memory\n".as_slice(),
     );
-    fs::remove_file(rt, path)?;
-    Ok(())
+    fs::remove_file(rt, path).expect(rt, "removed");
 }
 
 /// The address that a line names which names one.
 #[test]
-fn the_first_of_the_addresses(rt: HostRuntime) -> Result<(), Fail> {
+fn the_first_of_the_addresses(rt: HostRuntime) {
     let all = Addr { ip: 0, port: 137 };
     expect_eq(&rt, &Bind::Every(137).first(), &all);
-    let some = Bind::To(vec![in rt.alloc(); at(2), at(1)]?);
+    let some = Bind::To(vec![in rt.alloc(); at(2), at(1)].expect(&rt, "memory"));
     expect_eq(&rt, &some.first(), &at(2));
-    Ok(())
 }
 
 /// A server of every address that ends 2.5 s after its start, which keeps its leases in this folder, if there is one.
-pub(super) fn arguments<R: AllocGlobal>(
-    rt: &R,
-    folder: Option<&str>,
-) -> Result<ServerArguments, Fail> {
+pub(super) fn arguments<R: Abort + AllocGlobal>(rt: &R, folder: Option<&str>) -> ServerArguments {
     let state = match folder {
         Some(folder) => Some(StateFolder {
-            path: String::from_str(rt.alloc(), folder)?,
+            path: String::from_str(rt.alloc(), folder).expect(rt, "memory"),
             silent_after_boot: false,
         }),
         None => None,
     };
     let none = FixedNames::none(rt.alloc());
-    Ok(ServerArguments {
+    ServerArguments {
         nbns: NbnsArguments {
             bind: Bind::Every(SERVED),
-            config: config(16)?,
+            config: config(16).expect(rt, "limits"),
             time: Some(2_500),
             log: false,
             broadcasts: false,
@@ -554,10 +556,10 @@ pub(super) fn arguments<R: AllocGlobal>(
             stats: None,
             strict: folder.is_none(),
             rows_per_client: 64,
-            front: Front::new(Vec::new(rt.alloc()), none, config(16)?),
+            front: Front::new(Vec::new(rt.alloc()), none, config(16).expect(rt, "limits")),
         },
         state,
-    })
+    }
 }
 
 /// The port of the third test.
@@ -570,10 +572,10 @@ fn expect_told<R: Abort + AllocGlobal + Net + Files<File = File>>(
     rt: &R,
     machine: &Machine<'_, R>,
     folder: Option<&str>,
-) -> Result<(), Fail> {
+) {
     let mut printed = Vec::new(rt.alloc());
     let mut errors = Vec::new(rt.alloc());
-    let arguments = arguments(rt, folder)?;
+    let arguments = arguments(rt, folder);
     machine.is_read.set(false);
     let ended = run_server(machine, rt.alloc(), &arguments, &mut printed, &mut errors);
     expect_eq(rt, &ended, &Ok(()));
@@ -584,14 +586,13 @@ fn expect_told<R: Abort + AllocGlobal + Net + Files<File = File>>(
             .starts_with(b"serving 127.42.32.1:20199, "),
     );
     expect_eq(rt, &errors.as_slice(), &CAME.as_bytes());
-    Ok(())
 }
 
 #[test]
-fn a_server_says_which_address_came(rt: HostRuntime) -> Result<(), Fail> {
-    let first = path_for(&rt, "served-first")?;
-    let list = path_for(&rt, "served")?;
-    let folder = path_for(&rt, "served-state")?;
+fn a_server_says_which_address_came(rt: HostRuntime) {
+    let first = path_for(&rt, "served-first").expect(&rt, "a path");
+    let list = path_for(&rt, "served").expect(&rt, "a path");
+    let folder = path_for(&rt, "served-state").expect(&rt, "a path");
     expect_came(&rt, first.as_str(), list.as_str(), folder.as_str())
 }
 
@@ -601,19 +602,18 @@ fn expect_came<'a, R: Abort + AllocGlobal + Net + Files<File = File>>(
     first: &'a str,
     list: &'a str,
     folder: &str,
-) -> Result<(), Fail> {
-    fs::write(rt, first, ONE)?;
-    fs::write(rt, list, ONE_AND_TWO)?;
-    fs::create_dir(rt, folder)?;
+) {
+    fs::write(rt, first, ONE).expect(rt, "written");
+    fs::write(rt, list, ONE_AND_TWO).expect(rt, "written");
+    fs::create_dir(rt, folder).expect(rt, "a folder");
     let machine = Machine {
         first,
         step: 1_000,
         ..machine_of(rt, list, 0)
     };
-    expect_told(rt, &machine, None)?;
-    expect_told(rt, &machine, Some(folder))?;
-    fs::remove_file(rt, first)?;
-    fs::remove_file(rt, list)?;
-    fs::remove_dir_all(rt, folder)?;
-    Ok(())
+    expect_told(rt, &machine, None);
+    expect_told(rt, &machine, Some(folder));
+    fs::remove_file(rt, first).expect(rt, "removed");
+    fs::remove_file(rt, list).expect(rt, "removed");
+    fs::remove_dir_all(rt, folder).expect(rt, "removed");
 }

@@ -14,12 +14,11 @@ use nbt_report::{Origin, Tally};
 use nbt_server::Server;
 use nbt_store::{Boot, DiskStore, Header, MemoryDisk, Trouble, load};
 use nbt_testing::{
-    GRANTED, NOT_FOUND, QUERY, REFUSED, REGISTRATION, RELEASE, RIVAL, Row, clock, config,
-    expect_sent, moment, octets, one_of_many, registration_of_many,
+    GRANTED, NOT_FOUND, QUERY, REFUSED, REGISTRATION, RELEASE, RIVAL, Row, clock, config, octets,
+    one_of_many, registration_of_many, sent_all,
 };
 use std::collections::VecDeque;
 use std::process::Abort;
-use std::test::Fail;
 use std::time;
 
 const FIRST: Addr = Addr {
@@ -194,19 +193,26 @@ struct Stage<'a> {
 }
 
 /// The header of a server that starts at 0.
-fn header() -> Result<Header, Fail> {
-    let boot = Boot::new(b"boot").ok_or("no boot")?;
-    Ok(Header::new(config(4096)?, boot, 0, moment(0)?, moment(0)?, 0))
+fn header(rt: &impl Abort) -> Header {
+    let boot = Boot::new(b"boot").expect(rt, "a boot");
+    Header::new(
+        config(4096).expect(rt, "limits"),
+        boot,
+        0,
+        Moment::new(0).expect(rt, "a moment"),
+        Moment::new(0).expect(rt, "a moment"),
+        0,
+    )
 }
 
 /// A store over a disk in memory that has this trouble.
-fn store<R: AllocGlobal>(
+fn store<R: Abort + AllocGlobal>(
     rt: &R,
     trouble: Option<(usize, Trouble)>,
-) -> Result<DiskStore<MemoryDisk>, Fail> {
+) -> DiskStore<MemoryDisk> {
     let disk = MemoryDisk::new(rt.alloc(), trouble);
     let rows: [(Name, Lease); 0] = [];
-    Ok(DiskStore::open(disk, rt.alloc(), &header()?, &rows)?)
+    DiskStore::open(disk, rt.alloc(), &header(rt), &rows).expect(rt, "open")
 }
 
 /// One turn, at a port of which few calls have failed.
@@ -245,12 +251,12 @@ impl Scene for Kept {
         port: &mut MemoryPort,
         clock: &mut MemoryClock,
         server: &mut Server,
-    ) -> Result<(), Fail> {
+    ) {
         if let Some(calls) = self.port_fails {
             port.fail_after(calls);
         }
-        let mut store = store(rt, self.trouble)?;
-        let mut waiting = Waiting::new(rt.alloc())?;
+        let mut store = store(rt, self.trouble);
+        let mut waiting = Waiting::new(rt.alloc()).expect(rt, "waiting");
         let mut stage = Stage {
             port,
             clock,
@@ -259,7 +265,7 @@ impl Scene for Kept {
             waiting: &mut waiting,
         };
         expect_turns(rt, self, &mut stage);
-        expect_sent(rt, stage.port, self.sent)
+        sent_all(rt, stage.port, self.sent).expect(rt, "sent")
     }
 }
 
@@ -296,38 +302,39 @@ impl Scene for OneNameEach {
         port: &mut MemoryPort,
         clock: &mut MemoryClock,
         server: &mut Server,
-    ) -> Result<(), Fail> {
+    ) {
         server.limit_clients(1);
         A_SECOND_NAME.play(rt, port, clock, server)
     }
 }
 
-fn play_all<R: Abort + AllocGlobal + time::Clock>(rt: &R, rows: &[Kept]) -> Result<(), Fail> {
+fn play_all<R: Abort + AllocGlobal + time::Clock>(rt: &R, rows: &[Kept]) {
     for row in rows {
-        play_on(rt, row.given, &[60_000], row)?;
+        play_on(rt, row.given, &[60_000], row);
     }
-    Ok(())
 }
 
 #[test]
-fn replies_wait_until_their_changes_are_durable(rt: HostRuntime) -> Result<(), Fail> {
-    play_all(&rt, TURNS)?;
+fn replies_wait_until_their_changes_are_durable(rt: HostRuntime) {
+    play_all(&rt, TURNS);
     play_on(&rt, A_SECOND_NAME.given, &[60_000], &OneNameEach)
 }
 
 /// A port that hands out the registrations of names of these numbers; nothing where the number is `None`.
-fn port_of_many<R: AllocGlobal>(rt: &R, numbers: &[Option<u16>]) -> Result<MemoryPort, Fail> {
+fn port_of_many<R: Abort + AllocGlobal>(rt: &R, numbers: &[Option<u16>]) -> MemoryPort {
     let mut incoming = VecDeque::new(rt.alloc());
     for number in numbers {
-        incoming.push_back(match number {
-            Some(number) => Some(Datagram {
-                addr: FIRST,
-                octets: registration_of_many(rt, *number)?,
-            }),
-            None => None,
-        })?;
+        incoming
+            .push_back(match number {
+                Some(number) => Some(Datagram {
+                    addr: FIRST,
+                    octets: registration_of_many(rt, *number).expect(rt, "a registration"),
+                }),
+                None => None,
+            })
+            .expect(rt, "memory");
     }
-    Ok(MemoryPort::new(rt.alloc(), incoming))
+    MemoryPort::new(rt.alloc(), incoming)
 }
 
 /// 65 registrations, one after the other: the 64th leaves with those before it, at one sync.
@@ -340,14 +347,14 @@ impl Scene for Full {
         port: &mut MemoryPort,
         clock: &mut MemoryClock,
         server: &mut Server,
-    ) -> Result<(), Fail> {
+    ) {
         let mut numbers = Vec::new(rt.alloc());
         for number in 0..65 {
-            numbers.push(Some(number))?;
+            numbers.push(Some(number)).expect(rt, "memory");
         }
-        *port = port_of_many(rt, numbers.as_slice())?;
-        let mut store = store(rt, None)?;
-        let mut waiting = Waiting::new(rt.alloc())?;
+        *port = port_of_many(rt, numbers.as_slice());
+        let mut store = store(rt, None);
+        let mut waiting = Waiting::new(rt.alloc()).expect(rt, "waiting");
         let mut stage = Stage {
             port,
             clock,
@@ -362,12 +369,11 @@ impl Scene for Full {
             expect_eq_in(rt, &number, &stage.port.sent().len(), &sent);
         }
         expect_eq(rt, &stage.store.disk().calls(), &(3 + 65 + 1));
-        Ok(())
     }
 }
 
 #[test]
-fn sixty_four_replies_leave_together(rt: HostRuntime) -> Result<(), Fail> {
+fn sixty_four_replies_leave_together(rt: HostRuntime) {
     play_on(&rt, &[], &[60_000], &Full)
 }
 
@@ -391,83 +397,71 @@ struct Crash {
 }
 
 /// The server of these octets of a file finds the names of all grants among what was sent.
-fn expect_known<R: Abort + AllocGlobal>(
-    rt: &R,
-    octets: &[u8],
-    sent: &[Datagram],
-) -> Result<(), Fail> {
-    let now = moment(61_000)?;
-    let mut server = resumed(rt, octets, now)?;
+fn expect_known<R: Abort + AllocGlobal>(rt: &R, octets: &[u8], sent: &[Datagram]) {
+    let now = Moment::new(61_000).expect(rt, "a moment");
+    let mut server = resumed(rt, octets, now);
     for datagram in sent {
-        expect_found(rt, &mut server, now, datagram.octets.as_slice())?;
+        expect_found(rt, &mut server, now, datagram.octets.as_slice());
     }
-    Ok(())
 }
 
 /// The server that goes on with what these octets of a file keep.
-fn resumed<R: AllocGlobal>(rt: &R, octets: &[u8], now: Moment) -> Result<Server, Fail> {
-    let loaded = load(rt.alloc(), octets)?;
-    Ok(Server::resume(
+fn resumed<R: Abort + AllocGlobal>(rt: &R, octets: &[u8], now: Moment) -> Server {
+    let loaded = load(rt.alloc(), octets).expect(rt, "load");
+    Server::resume(
         rt.alloc(),
-        config(4096)?,
-        moment(loaded.header.start)?,
-        moment(loaded.header.last)?,
+        config(4096).expect(rt, "limits"),
+        Moment::new(loaded.header.start).expect(rt, "a moment"),
+        Moment::new(loaded.header.last).expect(rt, "a moment"),
         now,
         loaded.rows.as_slice(),
-    )?)
+    )
+    .expect(rt, "resume")
 }
 
 /// The server finds the name of this grant.
-fn expect_found<R: Abort + AllocGlobal>(
-    rt: &R,
-    server: &mut Server,
-    now: Moment,
-    grant: &[u8],
-) -> Result<(), Fail> {
+fn expect_found<R: Abort + AllocGlobal>(rt: &R, server: &mut Server, now: Moment, grant: &[u8]) {
     let [high, low, 0xAD, 0x80, ..] = grant else {
-        return Err(Fail::new("no grant"));
+        panic!(rt; "no grant");
     };
     let query = one_of_many(
         rt,
         u16::from_be_bytes([*high, *low]),
         "0100 one-name",
         "00 NB",
-    )?;
+    )
+    .expect(rt, "a packet");
     let mut out = ArrayVec::new();
-    server.on_datagram(now, SECOND, query.as_slice(), &mut out)?;
+    server
+        .on_datagram(now, SECOND, query.as_slice(), &mut out)
+        .expect(rt, "a reply");
     expect(rt, matches!(out.as_slice(), [_, _, 0x85, 0x80, ..]));
-    Ok(())
 }
 
 /// All that a crash may leave knows of what was sent.
-fn expect_all_known<R: Abort + AllocGlobal>(
-    rt: &R,
-    disk: &MemoryDisk,
-    sent: &[Datagram],
-) -> Result<(), Fail> {
+fn expect_all_known<R: Abort + AllocGlobal>(rt: &R, disk: &MemoryDisk, sent: &[Datagram]) {
     let mut number = 0;
     for _ in 0..10_000 {
         let Some(octets) = disk.left(number) else {
-            return Ok(());
+            return;
         };
-        expect_known(rt, octets, sent)?;
+        expect_known(rt, octets, sent);
         number = number.saturating_add(1);
     }
-    Err(Fail::new("too much is left"))
+    panic!(rt; "too much is left")
 }
 
 /// Goes through turns until the store fails, and after each of them looks at all that a crash would leave.
-fn go_until_it_crashes<R: Abort + AllocGlobal>(rt: &R, stage: &mut Stage) -> Result<(), Fail> {
+fn go_until_it_crashes<R: Abort + AllocGlobal>(rt: &R, stage: &mut Stage) {
     let mut octets = ArrayVec::new();
     for _ in BATCHES {
         let came = turn(rt, stage, &mut octets);
-        expect_all_known(rt, stage.store.disk(), stage.port.sent())?;
+        expect_all_known(rt, stage.store.disk(), stage.port.sent());
         if came.is_err() {
-            return Ok(());
+            return;
         }
     }
     expect_eq(rt, &stage.port.sent().len(), &5);
-    Ok(())
 }
 
 impl Scene for Crash {
@@ -477,10 +471,10 @@ impl Scene for Crash {
         port: &mut MemoryPort,
         clock: &mut MemoryClock,
         server: &mut Server,
-    ) -> Result<(), Fail> {
-        *port = port_of_many(rt, BATCHES)?;
-        let mut store = store(rt, Some(self.trouble))?;
-        let mut waiting = Waiting::new(rt.alloc())?;
+    ) {
+        *port = port_of_many(rt, BATCHES);
+        let mut store = store(rt, Some(self.trouble));
+        let mut waiting = Waiting::new(rt.alloc()).expect(rt, "waiting");
         let mut stage = Stage {
             port,
             clock,
@@ -495,23 +489,19 @@ impl Scene for Crash {
 /// The calls of both batches: 3 to open the file, 5 changes and 2 syncs; and one behind them.
 const CALLS: usize = 11;
 
-fn crash_at_each<R: Abort + AllocGlobal + time::Clock>(
-    rt: &R,
-    troubles: &[Trouble],
-) -> Result<(), Fail> {
+fn crash_at_each<R: Abort + AllocGlobal + time::Clock>(rt: &R, troubles: &[Trouble]) {
     for call in 3..CALLS {
         for trouble in troubles {
             let row = Crash {
                 trouble: (call, *trouble),
             };
-            play_on(rt, &[], &[60_000], &row)?;
+            play_on(rt, &[], &[60_000], &row);
         }
     }
-    Ok(())
 }
 
 #[test]
-fn what_left_before_a_crash_is_known_after_it(rt: HostRuntime) -> Result<(), Fail> {
+fn what_left_before_a_crash_is_known_after_it(rt: HostRuntime) {
     crash_at_each(
         &rt,
         &[
@@ -536,14 +526,14 @@ struct Stays {
 }
 
 /// Nobody watches.
-fn journal<R: AllocGlobal>(rt: &R) -> Result<Journal<MemoryClock, MemoryPlace>, Fail> {
-    let start = moment(0)?;
-    Ok(Journal {
+fn journal<R: Abort + AllocGlobal>(rt: &R) -> Journal<MemoryClock, MemoryPlace> {
+    let start = Moment::new(0).expect(rt, "a moment");
+    Journal {
         dates: Dates {
             moment: start,
             time: start,
         },
-        day: clock(rt, &[0])?,
+        day: clock(rt, &[0]).expect(rt, "a clock"),
         log: None,
         leases: None,
         hosts: None,
@@ -553,7 +543,7 @@ fn journal<R: AllocGlobal>(rt: &R) -> Result<Journal<MemoryClock, MemoryPlace>, 
             since: 0,
             speaks: 0,
         },
-    })
+    }
 }
 
 /// Goes on until this moment. Returns what came of it, and what is said of errors.
@@ -563,9 +553,9 @@ fn stay<R: Abort + AllocGlobal + time::Clock>(
     day: &mut MemoryClock,
     header: &mut Header,
     until: u64,
-) -> Result<(Result<(), Fault>, Vec<u8>), Fail> {
-    let until = Some(moment(until)?);
-    let mut watcher = journal(rt)?;
+) -> (Result<(), Fault>, Vec<u8>) {
+    let until = Some(Moment::new(until).expect(rt, "a moment"));
+    let mut watcher = journal(rt);
     let mut printed: Vec<u8> = Vec::new(rt.alloc());
     let mut errors: Vec<u8> = Vec::new(rt.alloc());
     expect(rt, stage.port.failures() <= 1 << 61);
@@ -585,7 +575,7 @@ fn stay<R: Abort + AllocGlobal + time::Clock>(
         &mut printed,
         &mut errors,
     );
-    Ok((came, errors))
+    (came, errors)
 }
 
 impl Scene for Stays {
@@ -595,11 +585,11 @@ impl Scene for Stays {
         port: &mut MemoryPort,
         clock_of: &mut MemoryClock,
         server: &mut Server,
-    ) -> Result<(), Fail> {
-        let mut store = store(rt, self.trouble)?;
-        let mut waiting = Waiting::new(rt.alloc())?;
-        let mut header = header()?;
-        let mut day = clock(rt, self.days)?;
+    ) {
+        let mut store = store(rt, self.trouble);
+        let mut waiting = Waiting::new(rt.alloc()).expect(rt, "waiting");
+        let mut header = header(rt);
+        let mut day = clock(rt, self.days).expect(rt, "a clock");
         let mut stage = Stage {
             port,
             clock: clock_of,
@@ -607,7 +597,7 @@ impl Scene for Stays {
             store: &mut store,
             waiting: &mut waiting,
         };
-        let (came, errors) = stay(rt, &mut stage, &mut day, &mut header, 60_003)?;
+        let (came, errors) = stay(rt, &mut stage, &mut day, &mut header, 60_003);
         expect_eq_in(rt, &self.days, &came, &self.came);
         expect_eq_in(rt, &self.days, &stage.store.disk().calls(), &self.calls);
         expect_eq_in(
@@ -617,7 +607,6 @@ impl Scene for Stays {
             &(self.last, self.day),
         );
         expect_eq(rt, &errors.as_slice(), &self.errors.as_bytes());
-        Ok(())
     }
 }
 
@@ -676,11 +665,10 @@ const STAYS: &[Stays] = &[
 ];
 
 #[test]
-fn the_file_is_written_anew_where_the_time_of_day_was_set(rt: HostRuntime) -> Result<(), Fail> {
+fn the_file_is_written_anew_where_the_time_of_day_was_set(rt: HostRuntime) {
     for row in STAYS {
-        play_on(&rt, GRANT, &[60_000, 60_001, 60_002, 60_003], row)?;
+        play_on(&rt, GRANT, &[60_000, 60_001, 60_002, 60_003], row);
     }
-    Ok(())
 }
 
 /// So many registrations of one name, one after the other.
@@ -689,25 +677,27 @@ const MANY: usize = 1_100;
 /// Renewals of one lease: the file is written anew once it has more than 1,024 lines, which is at the 17th batch.
 struct Long;
 
-fn port_of_one<R: AllocGlobal>(rt: &R) -> Result<MemoryPort, Fail> {
+fn port_of_one<R: Abort + AllocGlobal>(rt: &R) -> MemoryPort {
     let mut incoming = VecDeque::new(rt.alloc());
     for _ in 0..MANY {
-        incoming.push_back(Some(Datagram {
-            addr: FIRST,
-            octets: octets(rt, REGISTRATION)?,
-        }))?;
+        incoming
+            .push_back(Some(Datagram {
+                addr: FIRST,
+                octets: octets(rt, REGISTRATION).expect(rt, "octets"),
+            }))
+            .expect(rt, "memory");
     }
-    Ok(MemoryPort::new(rt.alloc(), incoming))
+    MemoryPort::new(rt.alloc(), incoming)
 }
 
 /// A clock that tells 60,000 in each turn of these, and then 60,003.
-fn clock_of_many<R: AllocGlobal>(rt: &R) -> Result<MemoryClock, Fail> {
+fn clock_of_many<R: Abort + AllocGlobal>(rt: &R) -> MemoryClock {
     let mut moments: Vec<u64> = Vec::new(rt.alloc());
     for _ in 0..2 * MANY {
-        moments.push(60_000)?;
+        moments.push(60_000).expect(rt, "memory");
     }
-    moments.push(60_003)?;
-    clock(rt, moments.as_slice())
+    moments.push(60_003).expect(rt, "memory");
+    clock(rt, moments.as_slice()).expect(rt, "a clock")
 }
 
 impl Scene for Long {
@@ -717,13 +707,13 @@ impl Scene for Long {
         port: &mut MemoryPort,
         clock_of: &mut MemoryClock,
         server: &mut Server,
-    ) -> Result<(), Fail> {
-        *port = port_of_one(rt)?;
-        *clock_of = clock_of_many(rt)?;
-        let mut store = store(rt, None)?;
-        let mut waiting = Waiting::new(rt.alloc())?;
-        let mut header = header()?;
-        let mut day = clock(rt, &[60_000])?;
+    ) {
+        *port = port_of_one(rt);
+        *clock_of = clock_of_many(rt);
+        let mut store = store(rt, None);
+        let mut waiting = Waiting::new(rt.alloc()).expect(rt, "waiting");
+        let mut header = header(rt);
+        let mut day = clock(rt, &[60_000]).expect(rt, "a clock");
         let mut stage = Stage {
             port,
             clock: clock_of,
@@ -741,23 +731,22 @@ fn stay_long<R: Abort + AllocGlobal + time::Clock>(
     stage: &mut Stage,
     day: &mut MemoryClock,
     header: &mut Header,
-) -> Result<(), Fail> {
-    let (came, _) = stay(rt, stage, day, header, 60_003)?;
+) {
+    let (came, _) = stay(rt, stage, day, header, 60_003);
     expect_eq(rt, &came, &Ok(()));
     expect_eq(rt, &stage.port.sent().len(), &MANY);
     // 17 batches of 64, 12 more, and 3 calls to write the file anew.
     expect_eq(rt, &stage.store.disk().calls(), &(3 + MANY + 17 + 1 + 3));
     expect_eq(rt, &header.last, &60_000);
-    expect_eq(rt, &rows_in(rt, stage.store.disk().octets())?, &1);
-    Ok(())
+    expect_eq(rt, &rows_in(rt, stage.store.disk().octets()), &1);
 }
 
 /// How many leases these octets of a file have.
-fn rows_in<R: AllocGlobal>(rt: &R, octets: &[u8]) -> Result<usize, Fail> {
-    Ok(load(rt.alloc(), octets)?.rows.len())
+fn rows_in<R: Abort + AllocGlobal>(rt: &R, octets: &[u8]) -> usize {
+    load(rt.alloc(), octets).expect(rt, "load").rows.len()
 }
 
 #[test]
-fn a_long_file_is_written_anew(rt: HostRuntime) -> Result<(), Fail> {
+fn a_long_file_is_written_anew(rt: HostRuntime) {
     play_on(&rt, &[], &[], &Long)
 }

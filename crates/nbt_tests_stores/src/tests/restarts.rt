@@ -1,16 +1,14 @@
 //! Whether a server goes on with what was kept. A datagram lives 1,000 ms at most, the longest lease is 60 s, and a table has four rows.
 
 use super::expect::expect_eq_in;
-use nbt_lease::{Config, Lease};
+use nbt_lease::{Config, Lease, Moment};
 use nbt_log::Dates;
 use nbt_name::{Addr, Kind, Name};
 use nbt_resume::{Found, Reason, begin, outlasts};
 use nbt_state::{Manner, manner_of, write_begin};
 use nbt_store::{Boot, Fault, Header, Silence, write_file};
-use nbt_testing::moment;
 use std::alloc::Global;
 use std::process::Abort;
-use std::test::Fail;
 
 /// What is found: no file, these octets, or the file of a group whose members' leases end at these times, as it was written or with a
 /// line behind it that is none. It was written at 77 by the server's clock, which was 7 ms ahead, when the time of day was `DAY`; the
@@ -193,36 +191,30 @@ const STARTS: &[Start<'static>] = &[
     ),
 ];
 
-fn boot_of(same: bool) -> Result<Boot, Fail> {
+fn boot_of(rt: &impl Abort, same: bool) -> Boot {
     let text: &[u8] = if same { b"boot-1" } else { b"boot-2" };
-    Ok(Boot::new(text).ok_or("no boot")?)
+    Boot::new(text).expect(rt, "a boot")
 }
 
-fn team() -> Result<Name, Fail> {
-    Ok(Name::new(b"TEAM            ", b"")?)
+fn team(rt: &impl Abort) -> Name {
+    Name::new(b"TEAM            ", b"").expect(rt, "a name")
 }
 
 /// Writes what is in the file, if there is one.
-fn write_found(
-    alloc: Global,
-    config: Config,
-    file: File<'_>,
-    out: &mut String,
-) -> Result<(), Fail> {
+fn write_found(rt: &impl Abort, alloc: Global, config: Config, file: File<'_>, out: &mut String) {
     match file {
         File::None => {}
-        File::Octets(text) => out.push_str(text)?,
-        File::Ends(ends) => write_ends(alloc, config, ends, out)?,
+        File::Octets(text) => out.push_str(text).expect(rt, "memory"),
+        File::Ends(ends) => write_ends(rt, alloc, config, ends, out),
         File::Damaged(ends) => {
-            write_ends(alloc, config, ends, out)?;
-            out.push_str("garbage\n")?;
+            write_ends(rt, alloc, config, ends, out);
+            out.push_str("garbage\n").expect(rt, "memory");
         }
     }
-    Ok(())
 }
 
 /// Writes the file of a group whose members' leases end at these times.
-fn write_ends(alloc: Global, config: Config, ends: &[u64], out: &mut String) -> Result<(), Fail> {
+fn write_ends(rt: &impl Abort, alloc: Global, config: Config, ends: &[u64], out: &mut String) {
     let mut rows = Vec::new(alloc);
     let mut addr: u32 = 0x7F00_0001;
     for end in ends {
@@ -232,22 +224,28 @@ fn write_ends(alloc: Global, config: Config, ends: &[u64], out: &mut String) -> 
             kind: Kind::Group,
             end: *end,
         };
-        rows.push((team()?, lease))?;
+        rows.push((team(rt), lease)).expect(rt, "memory");
     }
-    let header = Header::new(config, boot_of(true)?, 7, moment(5)?, moment(77)?, DAY);
+    let header = Header::new(
+        config,
+        boot_of(rt, true),
+        7,
+        Moment::new(5).expect(rt, "a moment"),
+        Moment::new(77).expect(rt, "a moment"),
+        DAY,
+    );
     let mut text = String::new(alloc);
-    write_file(alloc, &header, rows.as_slice(), &mut text)?;
-    out.push_str(text.as_str())?;
-    Ok(())
+    write_file(alloc, &header, rows.as_slice(), &mut text).expect(rt, "a file");
+    out.push_str(text.as_str()).expect(rt, "memory");
 }
 
 /// A server begins as the row says.
-fn begin_as(rt: &(impl Abort + AllocGlobal), row: &Start<'_>) -> Result<(), Fail> {
+fn begin_as(rt: &(impl Abort + AllocGlobal), row: &Start<'_>) {
     let (_, file, same, monotonic, later, silent_after_boot, wanted) = *row;
-    let config = Config::new(1000, 60, 4)?;
+    let config = Config::new(1000, 60, 4).expect(rt, "limits");
     let mut text = String::new(rt.alloc());
-    write_found(rt.alloc(), config, file, &mut text)?;
-    let boot = boot_of(same)?;
+    write_found(rt, rt.alloc(), config, file, &mut text);
+    let boot = boot_of(rt, same);
     let found = Found {
         kept: match file {
             File::None => None,
@@ -255,8 +253,8 @@ fn begin_as(rt: &(impl Abort + AllocGlobal), row: &Start<'_>) -> Result<(), Fail
         },
         config,
         boot: &boot,
-        monotonic: moment(monotonic)?,
-        day: moment(DAY.saturating_add(later))?,
+        monotonic: Moment::new(monotonic).expect(rt, "a moment"),
+        day: Moment::new(DAY.saturating_add(later)).expect(rt, "a moment"),
         silent_after_boot,
     };
     expect_begun(rt, row, &found, &wanted)
@@ -268,30 +266,28 @@ fn expect_begun(
     row: &Start<'_>,
     found: &Found<'_>,
     wanted: &Result<(u64, usize), Reason>,
-) -> Result<(), Fail> {
-    let begun = begin(rt.alloc(), found)?;
+) {
+    let begun = begin(rt.alloc(), found).expect(rt, "begin");
     let count = begun
         .server
         .table()
-        .members(begun.server.last(), &team()?)
+        .members(begun.server.last(), &team(rt))
         .count();
     let got = match begun.reason {
         Some(reason) => Err(reason),
         None => Ok((begun.header.ahead, count)),
     };
     expect_eq_in(rt, row, &got, wanted);
-    Ok(())
 }
 
-fn begin_all(rt: &(impl Abort + AllocGlobal), rows: &[Start<'_>]) -> Result<(), Fail> {
+fn begin_all(rt: &(impl Abort + AllocGlobal), rows: &[Start<'_>]) {
     for row in rows {
-        begin_as(rt, row)?;
+        begin_as(rt, row);
     }
-    Ok(())
 }
 
 #[test]
-fn servers_that_start_over_a_state(rt: HostRuntime) -> Result<(), Fail> {
+fn servers_that_start_over_a_state(rt: HostRuntime) {
     begin_all(&rt, STARTS)
 }
 
@@ -439,35 +435,44 @@ const SHORTER: &[Shorter<'static>] = &[
 ];
 
 /// A lease outlasts the silence, or doesn't, as the row says; whatever else there is to say of a start then.
-fn outlast_as(rt: &(impl Abort + AllocGlobal), row: &Shorter<'_>) -> Result<(), Fail> {
+fn outlast_as(rt: &(impl Abort + AllocGlobal), row: &Shorter<'_>) {
     let (_, longest, file, same, monotonic, later, wanted) = *row;
     let mut text = String::new(rt.alloc());
-    write_found(rt.alloc(), Config::new(1000, 60, 4)?, file, &mut text)?;
-    let boot = boot_of(same)?;
+    write_found(
+        rt,
+        rt.alloc(),
+        Config::new(1000, 60, 4).expect(rt, "limits"),
+        file,
+        &mut text,
+    );
+    let boot = boot_of(rt, same);
     let found = Found {
         kept: match file {
             File::None => None,
             _ => Some(text.as_bytes()),
         },
-        config: Config::new(999, longest, 8)?,
+        config: Config::new(999, longest, 8).expect(rt, "limits"),
         boot: &boot,
-        monotonic: moment(monotonic)?,
-        day: moment(DAY.saturating_add(later))?,
+        monotonic: Moment::new(monotonic).expect(rt, "a moment"),
+        day: Moment::new(DAY.saturating_add(later)).expect(rt, "a moment"),
         silent_after_boot: true,
     };
-    expect_eq_in(rt, row, &outlasts(rt.alloc(), &found)?, &wanted);
-    Ok(())
+    expect_eq_in(
+        rt,
+        row,
+        &outlasts(rt.alloc(), &found).expect(rt, "outlasts"),
+        &wanted,
+    );
 }
 
-fn outlast_all(rt: &(impl Abort + AllocGlobal), rows: &[Shorter<'_>]) -> Result<(), Fail> {
+fn outlast_all(rt: &(impl Abort + AllocGlobal), rows: &[Shorter<'_>]) {
     for row in rows {
-        outlast_as(rt, row)?;
+        outlast_as(rt, row);
     }
-    Ok(())
 }
 
 #[test]
-fn leases_that_outlast_a_shorter_silence(rt: HostRuntime) -> Result<(), Fail> {
+fn leases_that_outlast_a_shorter_silence(rt: HostRuntime) {
     outlast_all(&rt, SHORTER)
 }
 
@@ -549,7 +554,7 @@ const LINES: &[Line<'static>] = &[
 ];
 
 /// Each server says how it begins.
-fn say_all(rt: &(impl Abort + AllocGlobal), rows: &[Line<'_>]) -> Result<(), Fail> {
+fn say_all(rt: &(impl Abort + AllocGlobal), rows: &[Line<'_>]) {
     let end = Addr {
         ip: 0x7F00_0001,
         port: 137,
@@ -557,18 +562,23 @@ fn say_all(rt: &(impl Abort + AllocGlobal), rows: &[Line<'_>]) -> Result<(), Fai
     for row in rows {
         let (start, now, count, reason, wanted) = *row;
         let dates = Dates {
-            moment: moment(now)?,
-            time: moment(DAY)?,
+            moment: Moment::new(now).expect(rt, "a moment"),
+            time: Moment::new(DAY).expect(rt, "a moment"),
         };
-        let manner: Manner = manner_of(60, moment(start)?, &dates, count, reason);
+        let manner: Manner = manner_of(
+            60,
+            Moment::new(start).expect(rt, "a moment"),
+            &dates,
+            count,
+            reason,
+        );
         let mut line = String::new(rt.alloc());
-        write_begin(&[end], manner, &mut line)?;
+        write_begin(&[end], manner, &mut line).expect(rt, "a first line");
         expect_eq_in(rt, row, &line.as_str(), &wanted);
     }
-    Ok(())
 }
 
 #[test]
-fn first_lines_of_servers_over_a_state(rt: HostRuntime) -> Result<(), Fail> {
+fn first_lines_of_servers_over_a_state(rt: HostRuntime) {
     say_all(&rt, LINES)
 }

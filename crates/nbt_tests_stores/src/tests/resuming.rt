@@ -5,16 +5,15 @@ use super::expect::{expect_eq_in, expect_in};
 use super::{FRED, TEAM};
 use arrayvec::ArrayVec;
 use nbt_keep::change_of;
-use nbt_lease::{Config, Lease, RestoreFault, Table};
+use nbt_lease::{Config, Lease, Moment, RestoreFault, Table};
 use nbt_name::{Addr, Kind, Name};
 use nbt_server::{ResumeFault, Server, ServerFault};
 use nbt_store::Change;
 use nbt_testing::{
-    FIRST, FOUND, GRANTED, QUERY, REFRESH, REFUSED, REGISTRATION, RELEASE, RIVAL, SECOND, moment,
-    octets, started,
+    FIRST, FOUND, GRANTED, QUERY, REFRESH, REFUSED, REGISTRATION, RELEASE, RIVAL, SECOND, octets,
+    started,
 };
 use std::process::Abort;
-use std::test::Fail;
 
 /// A row that was kept: a name, an address, a kind and an expiry.
 type Kept<'a> = (&'a [u8; 16], u32, Kind, u64);
@@ -110,7 +109,7 @@ const RESTORINGS: &[Restoring<'static>] = &[
     ),
 ];
 
-fn rows_of<R: AllocGlobal>(rt: &R, kept: &[Kept<'_>]) -> Result<Vec<(Name, Lease)>, Fail> {
+fn rows_of<R: Abort + AllocGlobal>(rt: &R, kept: &[Kept<'_>]) -> Vec<(Name, Lease)> {
     let mut rows = Vec::new(rt.alloc());
     for (octets, addr, kind, end) in kept {
         let lease = Lease {
@@ -118,9 +117,10 @@ fn rows_of<R: AllocGlobal>(rt: &R, kept: &[Kept<'_>]) -> Result<Vec<(Name, Lease
             kind: *kind,
             end: *end,
         };
-        rows.push((Name::new(octets, b"")?, lease))?;
+        rows.push((Name::new(octets, b"").expect(rt, "a name"), lease))
+            .expect(rt, "memory");
     }
-    Ok(rows)
+    rows
 }
 
 /// The table has these leases of the name at 60,000.
@@ -130,47 +130,46 @@ fn expect_leases(
     table: &mut Table,
     octets: &[u8; 16],
     wanted: Leases<'_>,
-) -> Result<(), Fail> {
-    let now = moment(60_000)?;
+) {
+    let now = Moment::new(60_000).expect(rt, "a moment");
     expect_in(rt, &what, table.last() <= now);
     table.sweep(now);
-    let name = Name::new(octets, b"")?;
+    let name = Name::new(octets, b"").expect(rt, "a name");
     let mut found: ArrayVec<(u32, u64), 4> = ArrayVec::new();
     for lease in table.members(now, &name) {
         found
             .try_push((lease.addr, lease.end))
             .ok()
-            .ok_or("more than 4")?;
+            .expect(rt, "at most 4");
     }
     expect_eq_in(rt, &what, &found.as_slice(), &wanted);
-    Ok(())
 }
 
 /// A case of a table that is restored.
-fn restore<R: Abort + AllocGlobal>(rt: &R, case: &Restoring<'_>) -> Result<(), Fail> {
+fn restore<R: Abort + AllocGlobal>(rt: &R, case: &Restoring<'_>) {
     let (_, kept, _) = case;
-    let rows = rows_of(rt, kept)?;
+    let rows = rows_of(rt, kept);
     restore_rows(rt, case, rows.as_slice())
 }
 
-fn restore_rows<R: Abort + AllocGlobal>(
-    rt: &R,
-    case: &Restoring<'_>,
-    rows: &[(Name, Lease)],
-) -> Result<(), Fail> {
+fn restore_rows<R: Abort + AllocGlobal>(rt: &R, case: &Restoring<'_>, rows: &[(Name, Lease)]) {
     let (what, _, wanted) = case;
-    let config = Config::new(1000, 60, 4)?;
-    match Table::restore(rt.alloc(), config, moment(60_000)?, rows) {
+    let config = Config::new(1000, 60, 4).expect(rt, "limits");
+    match Table::restore(
+        rt.alloc(),
+        config,
+        Moment::new(60_000).expect(rt, "a moment"),
+        rows,
+    ) {
         Ok(mut table) => {
             expect_in(rt, what, wanted.is_ok());
             match wanted {
                 Ok(leases) => expect_both(rt, what, &mut table, leases),
-                Err(_) => Ok(()),
+                Err(_) => (),
             }
         }
         Err(fault) => {
             expect_eq_in(rt, what, &Err(fault), &wanted.map(|_| ()));
-            Ok(())
         }
     }
 }
@@ -181,17 +180,16 @@ fn expect_both(
     what: &str,
     table: &mut Table,
     (fred, team): &(Leases<'_>, Leases<'_>),
-) -> Result<(), Fail> {
-    expect_leases(rt, what, table, FRED, fred)?;
+) {
+    expect_leases(rt, what, table, FRED, fred);
     expect_leases(rt, what, table, TEAM, team)
 }
 
 #[test]
-fn tables_are_restored_from_what_was_kept(rt: HostRuntime) -> Result<(), Fail> {
+fn tables_are_restored_from_what_was_kept(rt: HostRuntime) {
     for case in RESTORINGS {
-        restore(&rt, case)?;
+        restore(&rt, case);
     }
-    Ok(())
 }
 
 /// When a server started, its last time, and when it resumes; and why it doesn't, if it doesn't.
@@ -208,33 +206,31 @@ const RESUMINGS: [Resuming; 6] = [
 ];
 
 /// A server that resumes with FRED's lease, which 127.0.0.2 has until 120,000.
-fn resumed<R: AllocGlobal>(
+fn resumed<R: Abort + AllocGlobal>(
     rt: &R,
     start: u64,
     last: u64,
     now: u64,
-) -> Result<Result<Server, ResumeFault>, Fail> {
-    let rows = rows_of(rt, &[(FRED, FIRST, UNIQUE, 120_000)])?;
-    let config = Config::new(1000, 60, 4)?;
-    let server = Server::resume(
+) -> Result<Server, ResumeFault> {
+    let rows = rows_of(rt, &[(FRED, FIRST, UNIQUE, 120_000)]);
+    let config = Config::new(1000, 60, 4).expect(rt, "limits");
+    Server::resume(
         rt.alloc(),
         config,
-        moment(start)?,
-        moment(last)?,
-        moment(now)?,
+        Moment::new(start).expect(rt, "a moment"),
+        Moment::new(last).expect(rt, "a moment"),
+        Moment::new(now).expect(rt, "a moment"),
         rows.as_slice(),
-    );
-    Ok(server)
+    )
 }
 
 #[test]
-fn a_server_resumes_or_says_why_not(rt: HostRuntime) -> Result<(), Fail> {
+fn a_server_resumes_or_says_why_not(rt: HostRuntime) {
     for case in &RESUMINGS {
         let (start, last, now, wanted) = *case;
-        let fault = resumed(&rt, start, last, now)?.err();
+        let fault = resumed(&rt, start, last, now).err();
         expect_eq_in(&rt, case, &fault, &wanted);
     }
-    Ok(())
 }
 
 /// When a datagram comes, from which address, its octets, and those of the reply; `-` where there is none.
@@ -254,32 +250,33 @@ const AS_LONG_AS_IT_WAS: [Row; 2] = [
     (61_500, FIRST, REGISTRATION, GRANTED),
 ];
 
-fn expect_reply<R: Abort + AllocGlobal>(
-    rt: &R,
-    server: &mut Server,
-    row: &Row,
-) -> Result<(), Fail> {
+fn expect_reply<R: Abort + AllocGlobal>(rt: &R, server: &mut Server, row: &Row) {
     let (now, ip, asks, gives) = *row;
-    let asks = octets(rt, asks)?;
-    let gives = octets(rt, gives)?;
+    let asks = octets(rt, asks).expect(rt, "octets");
+    let gives = octets(rt, gives).expect(rt, "octets");
     let from = Addr { ip, port: 137 };
     let mut out = ArrayVec::new();
-    server.on_datagram(moment(now)?, from, asks.as_slice(), &mut out)?;
+    server
+        .on_datagram(
+            Moment::new(now).expect(rt, "a moment"),
+            from,
+            asks.as_slice(),
+            &mut out,
+        )
+        .expect(rt, "a reply");
     expect_eq_in(rt, row, &out.as_slice(), &gives.as_slice());
-    Ok(())
 }
 
-fn play<R: Abort + AllocGlobal>(rt: &R, start: u64, rows: &[Row]) -> Result<(), Fail> {
-    let mut server = resumed(rt, start, 60_000, 61_000)??;
+fn play<R: Abort + AllocGlobal>(rt: &R, start: u64, rows: &[Row]) {
+    let mut server = resumed(rt, start, 60_000, 61_000).expect(rt, "a server");
     for row in rows {
-        expect_reply(rt, &mut server, row)?;
+        expect_reply(rt, &mut server, row);
     }
-    Ok(())
 }
 
 #[test]
-fn a_server_that_resumed_goes_on_as_if_it_had_not_ended(rt: HostRuntime) -> Result<(), Fail> {
-    play(&rt, 0, &AFTER_IT_RESUMED)?;
+fn a_server_that_resumed_goes_on_as_if_it_had_not_ended(rt: HostRuntime) {
+    play(&rt, 0, &AFTER_IT_RESUMED);
     play(&rt, 1_500, &AS_LONG_AS_IT_WAS)
 }
 
@@ -332,18 +329,22 @@ fn changed_of(change: &Option<Change>, fred: &Name) -> Option<Changed> {
     if name == fred { Some(changed) } else { None }
 }
 
-fn expect_change<R: Abort + AllocGlobal>(
-    rt: &R,
-    server: &mut Server,
-    row: &Changing,
-) -> Result<(), Fail> {
+fn expect_change<R: Abort + AllocGlobal>(rt: &R, server: &mut Server, row: &Changing) {
     let (now, ip, asks, wanted) = *row;
-    let asks = octets(rt, asks)?;
+    let asks = octets(rt, asks).expect(rt, "octets");
     let from = Addr { ip, port: 137 };
     let mut out = ArrayVec::new();
-    match server.handle(moment(now)?, from, asks.as_slice(), &mut out) {
+    match server.handle(
+        Moment::new(now).expect(rt, "a moment"),
+        from,
+        asks.as_slice(),
+        &mut out,
+    ) {
         Ok(outcome) => {
-            let changed = changed_of(&change_of(server, &outcome), &Name::new(FRED, b"")?);
+            let changed = changed_of(
+                &change_of(server, &outcome),
+                &Name::new(FRED, b"").expect(rt, "a name"),
+            );
             expect_eq_in(rt, row, &changed, &wanted);
         }
         Err(fault) => {
@@ -351,17 +352,15 @@ fn expect_change<R: Abort + AllocGlobal>(
             expect_eq_in(rt, row, &None, &wanted);
         }
     }
-    Ok(())
 }
 
-fn expect_changes<R: Abort + AllocGlobal>(rt: &R, server: &mut Server) -> Result<(), Fail> {
+fn expect_changes<R: Abort + AllocGlobal>(rt: &R, server: &mut Server) {
     for row in &CHANGES {
-        expect_change(rt, server, row)?;
+        expect_change(rt, server, row);
     }
-    Ok(())
 }
 
 #[test]
-fn each_datagram_changes_one_lease_or_none(rt: HostRuntime) -> Result<(), Fail> {
-    expect_changes(&rt, &mut started(&rt, 4096, 0)?)
+fn each_datagram_changes_one_lease_or_none(rt: HostRuntime) {
+    expect_changes(&rt, &mut started(&rt, 4096, 0).expect(&rt, "a server"))
 }

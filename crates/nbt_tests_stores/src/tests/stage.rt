@@ -1,11 +1,10 @@
-//! Where rows over a port in memory are played. The port, its clock and the server are made, and dropped, in one place for all rows: the
-//! prover follows each failure through all that is dropped then.
+//! Where rows over a port in memory are played. The port, its clock and the server are made, and dropped, in one place for all rows: each
+//! place that owns them costs the prover.
 
 use nbt_port::{MemoryClock, MemoryPort};
 use nbt_server::Server;
 use nbt_testing::{Row, clock, port, started};
 use std::process::Abort;
-use std::test::Fail;
 use std::time;
 
 /// What is played at a port in memory.
@@ -17,7 +16,7 @@ pub trait Scene {
         port: &mut MemoryPort,
         clock: &mut MemoryClock,
         server: &mut Server,
-    ) -> Result<(), Fail>;
+    );
 }
 
 /// Plays a scene at a port that hands these out, by a clock that tells these moments, with a server that starts at 0 and has room for
@@ -27,9 +26,9 @@ pub fn play_on<R: Abort + AllocGlobal + time::Clock, S: Scene>(
     given: &[Row],
     moments: &[u64],
     scene: &S,
-) -> Result<(), Fail> {
-    let mut port = port(rt, given)?;
-    let mut clock = clock(rt, moments)?;
-    let mut server = started(rt, 4096, 0)?;
+) {
+    let mut port = port(rt, given).expect(rt, "a port");
+    let mut clock = clock(rt, moments).expect(rt, "a clock");
+    let mut server = started(rt, 4096, 0).expect(rt, "a server");
     scene.play(rt, &mut port, &mut clock, &mut server)
 }

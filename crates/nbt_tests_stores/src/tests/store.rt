@@ -1,22 +1,20 @@
 //! What a store keeps: its file as text, cut at each octet, and with each octet changed in turn.
 
 use super::expect::{expect, expect_eq, expect_eq_in};
-use super::{fred, team};
+use super::{fred, header, team};
 use nbt_lease::{Config, Lease};
 use nbt_name::Kind;
 use nbt_store::{
-    Boot, Change, Fault, Header, ReadFault, Silence, load, why_silent, write_change, write_file,
+    Boot, Change, Fault, ReadFault, Silence, load, why_silent, write_change, write_file,
 };
-use nbt_testing::moment;
 use std::alloc::Global;
 use std::process::Abort;
-use std::test::Fail;
 
 const FIRST: u32 = 0xC000_0207;
 
 const SECOND: u32 = 0xC000_0208;
 
-/// The time of day when the file was written.
+/// The time of day when the file was written, in milliseconds.
 const DAY: u64 = 1_700_000_000_000;
 
 /// A file that was written with one lease, and three more changes. The checksums were computed apart from this program.
@@ -29,12 +27,6 @@ released TEAM 192.0.2.8:137 3170882e\n";
 
 /// How many leases there are after each number of changes of it.
 const ROWS: [usize; 5] = [0, 1, 2, 2, 1];
-
-fn header() -> Result<Header, Fail> {
-    let boot = Boot::new(b"boot-1").ok_or("no boot")?;
-    let config = Config::new(1000, 60, 4096)?;
-    Ok(Header::new(config, boot, 7, moment(5)?, moment(77)?, DAY))
-}
 
 /// FRED of the first host, alone.
 fn fred_lease() -> Lease {
@@ -55,36 +47,35 @@ fn team_lease(addr: u32) -> Lease {
 }
 
 /// The last three changes of the file.
-fn write_changes(alloc: Global, out: &mut String) -> Result<(), Fail> {
+fn write_changes(rt: &impl Abort, alloc: Global, out: &mut String) {
     let began = Change::Began {
-        name: team(b"")?,
+        name: team(rt, b""),
         lease: team_lease(SECOND),
     };
-    write_change(alloc, &began, out)?;
+    write_change(alloc, &began, out).expect(rt, "a line");
     let moved = Change::Moved {
-        name: fred(b"")?,
+        name: fred(rt, b""),
         addr: FIRST,
         end: 65_000,
     };
-    write_change(alloc, &moved, out)?;
+    write_change(alloc, &moved, out).expect(rt, "a line");
     let released = Change::Released {
-        name: team(b"")?,
+        name: team(rt, b""),
         addr: SECOND,
     };
-    write_change(alloc, &released, out)?;
-    Ok(())
+    write_change(alloc, &released, out).expect(rt, "a line");
 }
 
 #[test]
-fn file_of_a_store(rt: HostRuntime) -> Result<(), Fail> {
+fn file_of_a_store(rt: HostRuntime) {
     let alloc = rt.alloc();
     let mut rows = Vec::new(alloc);
-    rows.push((fred(b"")?, fred_lease()))?;
+    rows.push((fred(&rt, b""), fred_lease()))
+        .expect(&rt, "memory");
     let mut out = String::new(alloc);
-    write_file(alloc, &header()?, rows.as_slice(), &mut out)?;
-    write_changes(alloc, &mut out)?;
+    write_file(alloc, &header(&rt, 77), rows.as_slice(), &mut out).expect(&rt, "a file");
+    write_changes(&rt, alloc, &mut out);
     expect_eq(&rt, &out.as_str(), &FILE);
-    Ok(())
 }
 
 /// How many leases are loaded of octets, or why none are.
@@ -107,13 +98,12 @@ fn of_lines(lines: usize) -> Result<usize, ReadFault> {
 }
 
 #[test]
-fn file_of_a_store_cut_at_each_octet(rt: HostRuntime) -> Result<(), Fail> {
+fn file_of_a_store_cut_at_each_octet(rt: HostRuntime) {
     let whole = FILE.as_bytes();
     for place in 0..=whole.len() {
         let cut = &whole[..place];
         expect_eq_in(&rt, &place, &loaded(rt.alloc(), cut), &of_lines(feeds(cut)));
     }
-    Ok(())
 }
 
 /// The fault of a file that is damaged behind this many line feeds.
@@ -125,17 +115,17 @@ fn damaged_behind(feeds: usize) -> Result<usize, ReadFault> {
 }
 
 /// A file in which one octet is another is refused at the line of that octet. At its very end the last line is torn.
-fn change_octet(rt: &(impl Abort + AllocGlobal), place: usize, octet: u8) -> Result<(), Fail> {
+fn change_octet(rt: &(impl Abort + AllocGlobal), place: usize, octet: u8) {
     let whole = FILE.as_bytes();
-    let (before, behind) = whole.split_at_checked(place).ok_or("past the end")?;
-    let (was, rest) = behind.split_first().ok_or("at the end")?;
+    let (before, behind) = whole.split_at_checked(place).expect(rt, "past the end");
+    let (was, rest) = behind.split_first().expect(rt, "at the end");
     if *was == octet {
-        return Ok(());
+        return;
     }
     let mut octets = Vec::new(rt.alloc());
-    octets.extend_from_slice(before)?;
-    octets.push(octet)?;
-    octets.extend_from_slice(rest)?;
+    octets.extend_from_slice(before).expect(rt, "memory");
+    octets.push(octet).expect(rt, "memory");
+    octets.extend_from_slice(rest).expect(rt, "memory");
     let wanted = if rest.is_empty() {
         Ok(2)
     } else {
@@ -143,19 +133,17 @@ fn change_octet(rt: &(impl Abort + AllocGlobal), place: usize, octet: u8) -> Res
     };
     let got = loaded(rt.alloc(), octets.as_slice());
     expect_eq_in(rt, &(place, octet), &got, &wanted);
-    Ok(())
 }
 
 #[test]
-fn file_of_a_store_with_each_octet_changed(rt: HostRuntime) -> Result<(), Fail> {
+fn file_of_a_store_with_each_octet_changed(rt: HostRuntime) {
     for place in 0..FILE.len() {
         for octet in [0, b'\n', b' ', b'0', b'~', 255] {
-            change_octet(&rt, place, octet)?;
+            change_octet(&rt, place, octet);
         }
-        let was = FILE.as_bytes().get(place).ok_or("past the end")?;
-        change_octet(&rt, place, *was ^ 1)?;
+        let was = FILE.as_bytes().get(place).expect(&rt, "past the end");
+        change_octet(&rt, place, *was ^ 1);
     }
-    Ok(())
 }
 
 /// Octets that are no file, and why.
@@ -275,25 +263,23 @@ const SILENCES: &[Asked<'static>] = &[
 ];
 
 /// Each row is as it says.
-fn ask_reasons(rt: &impl Abort, rows: &[Asked<'_>]) -> Result<(), Fail> {
+fn ask_reasons(rt: &impl Abort, rows: &[Asked<'_>]) {
     for row in rows {
         let ((life, longest, most), boot, monotonic, day, silent, wanted) = *row;
-        let boot = Boot::new(boot).ok_or("no boot")?;
-        let config = Config::new(life, longest, most)?;
-        let got = why_silent(&header()?, config, &boot, monotonic, day, silent);
+        let boot = Boot::new(boot).expect(rt, "a boot");
+        let config = Config::new(life, longest, most).expect(rt, "limits");
+        let got = why_silent(&header(rt, 77), config, &boot, monotonic, day, silent);
         expect_eq_in(rt, row, &got, &wanted);
     }
-    Ok(())
 }
 
 #[test]
-fn reasons_for_a_silence(rt: HostRuntime) -> Result<(), Fail> {
-    ask_reasons(&rt, SILENCES)?;
+fn reasons_for_a_silence(rt: HostRuntime) {
+    ask_reasons(&rt, SILENCES);
     expect(&rt, Boot::new(b"").is_none());
     expect(&rt, Boot::new(b"boot 1").is_none());
     expect(
         &rt,
         Boot::new(b"5b5b0b6e-6f5f-4b7e-8a55-6d7a1c1d2e3f0").is_none(),
     );
-    Ok(())
 }
