@@ -38,11 +38,12 @@ const NONE_REPLIED: u8 = 1;
 /// The status of releases of which one wasn't confirmed (our profile).
 const NOT_RELEASED: u8 = 1;
 
-/// Runs a command over this machine's UDP, clocks and files, prints its output, and returns the status: of a lookup or a status request 0, 1
-/// or 5, as its answer has it, and of several requests the greatest; of a name server 0; of a host 0 if it held all its names at its end, else 5; of releases 0 if all were
-/// confirmed, else 1; of a scan 0 if a host replied, else 1. The first invalid argument is refused before anything is done. Then it fails as `ask_here`, `run_server`,
-/// `run_host` and `run_release` do, and with `Output` if an answer can't be printed. If the longest lease of a name server that keeps
-/// no leases is above an hour, a line in `errors` says for how long the server is silent.
+/// Runs a command over this machine's UDP, clocks and files, prints its output, and returns the status: of a lookup or a status request
+/// 0, 1 or 5, as its answer has it, and of several requests the greatest; of a name server 0; of a host 0 if it held all its names at its
+/// end, else 5; of releases 0 if all were confirmed, else 1; of a scan 0 if a host replied, else 1. The first invalid argument is refused
+/// before anything is done. Then it fails as `ask_here`, `run_server`, `run_host` and `run_release` do, and with `Output` if an answer
+/// can't be printed. If the longest lease of a name server that keeps no leases is above an hour, a line in `errors` says for how long
+/// the server is silent.
 pub fn run<M: Net + time::Clock + Files<File = File>, W: Write, E: Write>(
     machine: &M,
     alloc: Global,

@@ -1,5 +1,6 @@
 pub mod Begin
 pub mod Contents
+pub mod Inner
 pub mod Journaling
 pub mod Keeping
 pub mod Limits

@@ -15,6 +15,7 @@ mod place;
 mod report;
 mod running;
 mod standing;
+mod starting;
 mod staying;
 
 pub use begin::{write_addresses, write_begin};
@@ -28,5 +29,6 @@ pub use logger::Logger;
 pub use outbox::Outbox;
 pub use place::{FilePlace, MemoryPlace, Place};
 pub use report::{Listing, Report, StatsReport};
-pub use running::{NbnsArguments, journal_of, run_nbns};
+pub use running::{NbnsArguments, run_nbns};
+pub use starting::journal_of;
 pub use staying::{Shown, Watcher, watch_on};

@@ -53,10 +53,10 @@ impl Logger {
         self.outbox.dropped()
     }
 
-    /// Prints the line of what a server did with a datagram, at once, where it may be printed, and what waits of the lines before
-    /// it. Of a turn that has no line it prints how many of a kind were left out, if a line of that kind may be printed. Where the reader of the log is slow, a line waits or is dropped, as [`Outbox::send`] says. Returns whether that was
-    /// done: not where it was out of memory or the log can't be written, which is said in `errors`, the first time of a row, as is
-    /// that it can be written again.
+    /// Prints the line of what a server did with a datagram, at once, where it may be printed, and what waits of the lines before it. Of
+    /// a turn that has no line it prints how many of a kind were left out, if a line of that kind may be printed. Where the reader of the
+    /// log is slow, a line waits or is dropped, as [`Outbox::send`] says. Returns whether that was done: not where it was out of memory
+    /// or the log can't be written, which is said in `errors`, the first time of a row, as is that it can be written again.
     pub fn log<W: Write, E: Write>(
         &mut self,
         dates: &Dates,

@@ -68,8 +68,9 @@ impl Outbox {
         outcome
     }
 
-    /// Hands a line to the writer, behind what waits, with a note of how many lines were dropped before it, if some were. Where
-    /// something still waits, the line is dropped, and counted. Of an empty line only what waits is handed on. Refused where the writer fails, or it is out of memory.
+    /// Hands a line to the writer, behind what waits, with a note of how many lines were dropped before it, if some were. Where something
+    /// still waits, the line is dropped, and counted. Of an empty line only what waits is handed on. Refused where the writer fails, or
+    /// it is out of memory.
     pub fn send<W: Write>(&mut self, line: &str, writer: &mut W) -> io::Result<()>
         ensures { OnOk result (Sends self.old line.now (W.contents writer.old) self.new (W.contents writer.new)) }
     {

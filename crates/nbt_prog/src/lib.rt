@@ -65,9 +65,10 @@ pub fn command<S: AsStr, R: Read, W: Write>(
 /// `nbns`, `host`, `release`, `scan`, `serve`, `node` and `loop`. The first two write to `writer` at their end, with the status 0, 1 if
 /// the name isn't found, or 5 if no reply came; the others write while they run, `host` with the status 5 if a name wasn't held at its
 /// end. If an argument of the first six is invalid, a line in `errors` says what is wrong, and the status is 2. A line in `errors` also
-/// explains `unreadable` and `memory`. `scan --json` prints `device` and `memory` in an object of JSON. The status is 3 too if a port can't be bound, if a clock can't be read at the start, or if a socket
-/// failed. Then a line in `errors` says which call of the system failed, for which address, and why. With `--forever` a line in `errors`
-/// reports a socket that failed, and only the hundredth failed turn in a row ends the command. Failures to write to `errors` are ignored.
+/// explains `unreadable` and `memory`. `scan --json` prints `device` and `memory` in an object of JSON. The status is 3 too if a port
+/// can't be bound, if a clock can't be read at the start, or if a socket failed. Then a line in `errors` says which call of the system
+/// failed, for which address, and why. With `--forever` a line in `errors` reports a socket that failed, and only the hundredth failed
+/// turn in a row ends the command. Failures to write to `errors` are ignored.
 pub fn command_telling<
     M: Net + time::Clock + Files<File = File>,
     S: AsStr,

@@ -18,9 +18,9 @@ use std::net::Net;
 use std::rt::Files;
 use std::time;
 
-/// Runs a command line on this machine, and returns the exit status. The commands that open sockets write to `writer` while they run, `lookup` and
-/// `status` at their end; the others as [`run`] does. The word of a failure is printed in an object where `scan --json` fails. `errors` gets the lines of [`command_telling`](crate::command_telling), except the one
-/// for memory that is out.
+/// Runs a command line on this machine, and returns the exit status. The commands that open sockets write to `writer` while they run,
+/// `lookup` and `status` at their end; the others as [`run`] does. The word of a failure is printed in an object where `scan --json`
+/// fails. `errors` gets the lines of [`command_telling`](crate::command_telling), except the one for memory that is out.
 pub fn run_on<M: Net + time::Clock + Files<File = File>, R: Read, W: Write, E: Write>(
     machine: &M,
     alloc: Global,

@@ -1,5 +1,6 @@
 -- A server that keeps its leases begins, over this machine.
-use Rattle.std.proofs.Common.{◌≡◌, ◌⊎◌, ℕ, List, Bool, false, Option, refl, subst, inl, inr}
+use Rattle.std.proofs.Common.{◌≡◌, ◌⊎◌, ℕ, List, Bool, false, Option, Result, Ok, Err, refl, subst, inl, inr}
+use Rattle.std.specs.Prelude.{IfErr}
 use Rattle.nbt_port.specs.Udp.{PortsValue}
 use Rattle.nbt_port.specs.declared.ahead.Ahead.{Ahead}
 use Rattle.nbt_port.specs.declared.fault.Fault.{Fault}
@@ -31,6 +32,11 @@ pub is_first_kept : (a : NbnsArguments) (begun : Begun) (monotonic time : ℕ) (
     → store ≡ false → clock ≡ monotonic → day ≡ time → waiting ≡ none_waits → journal ≡ new_journal a (dates_of begun time) 0 begun.start
     → kept_of begun store clock day waiting journal a.rows_per_client ≡ first_kept a begun monotonic time
 is_first_kept a begun monotonic time store clock day waiting journal s c d w j = cc
+
+-- a fault that says this says that
+pub if_err_weaker : {T E : Type 0} {P Q : E → Type 0} (r : Result T E) → ((e : E) → P e → Q e) → IfErr r P → IfErr r Q
+if_err_weaker (Ok x) f was = tt
+if_err_weaker (Err e) f was = f e was
 
 -- what isn't for the device, of these faults
 pub for_memory : (text : Option (List ℕ)) (r : Fault) → r ≡ Memory → StartsNot text text r

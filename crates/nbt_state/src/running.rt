@@ -115,17 +115,17 @@ fn keep_over<
 {
     let mut kept = kept;
     if strict {
-        let mut port = FrontPort::new(port, desk);
-        keep_to_its_end(&mut port, &mut kept, until, alloc, machine, writer, errors)
+        let port = FrontPort::new(port, desk);
+        keep_to_its_end(port, &mut kept, until, alloc, machine, writer, errors)
     } else {
-        let mut port = FrontPort::new(SambaPort::new(port), desk);
-        keep_to_its_end(&mut port, &mut kept, until, alloc, machine, writer, errors)
+        let port = FrontPort::new(SambaPort::new(port), desk);
+        keep_to_its_end(port, &mut kept, until, alloc, machine, writer, errors)
     }
 }
 
 /// Keeps a server up until it ends, as [`keep_on`] does. Where the port failed for good, a line in `errors` says why.
 fn keep_to_its_end<
-    P: Port,
+    P: Port + Drop,
     S: Store,
     C: Clock,
     D: Clock,
@@ -134,7 +134,7 @@ fn keep_to_its_end<
     W: Write,
     E: Write,
 >(
-    port: &mut P,
+    port: P,
     kept: &mut KeptServer<S, C, D, V>,
     until: Option<Moment>,
     alloc: Global,
@@ -142,15 +142,16 @@ fn keep_to_its_end<
     writer: &mut W,
     errors: &mut E,
 ) -> Result<(), Fault>
-    requires failure_count { P.failures port.old ≤ 2 ^ 61 }
+    requires failure_count { P.failures port ≤ 2 ^ 61 }
     requires room { length kept.old.waiting.replies < batch }
-    ensures ok { OnOk result (StaysUntil (WatchesOn P.does P.failures S.does C.tells D.tells V.sees until) (BreaksStaying P.does P.failures S.does C.tells D.tells V.sees fault.Port)
-        (WatchesLast P.does P.failures S.does C.tells D.tells V.sees until) forever (staying_of port.old kept.old (W.contents writer.old)) (staying_of port.new kept.new (W.contents writer.new))) }
-    ensures err { IfErr result (λ why. EndsEarly (WatchesOn P.does P.failures S.does C.tells D.tells V.sees until) (BreaksStaying P.does P.failures S.does C.tells D.tells V.sees fault.Port)
-        (CutsStaying P.does P.failures S.does C.tells D.tells V.sees) forever why (staying_of port.old kept.old (W.contents writer.old)) (staying_of port.new kept.new (W.contents writer.new))) }
+    ensures ok { OnOk result ((last : P) × StaysUntil (WatchesOn P.does P.failures S.does C.tells D.tells V.sees until) (BreaksStaying P.does P.failures S.does C.tells D.tells V.sees fault.Port)
+        (WatchesLast P.does P.failures S.does C.tells D.tells V.sees until) forever (staying_of port kept.old (W.contents writer.old)) (staying_of last kept.new (W.contents writer.new))) }
+    ensures err { IfErr result (λ why. (last : P) × EndsEarly (WatchesOn P.does P.failures S.does C.tells D.tells V.sees until) (BreaksStaying P.does P.failures S.does C.tells D.tells V.sees fault.Port)
+        (CutsStaying P.does P.failures S.does C.tells D.tells V.sees) forever why (staying_of port kept.old (W.contents writer.old)) (staying_of last kept.new (W.contents writer.new))) }
 {
+    let mut port = port;
     let ended = keep_on(
-        port,
+        &mut port,
         &mut kept.store,
         &mut kept.clock,
         &mut kept.day,

@@ -1,6 +1,7 @@
 //! Folders of this system that keep a server's leases: which file has them, who may use one, and what is said of one that can't be used.
 
 use super::expect::{expect, expect_eq, expect_eq_in};
+use super::following::machine_refusing;
 use nbt_front::{FixedNames, Front};
 use nbt_lease::{Config, Lease, Moment};
 use nbt_name::{Addr, Kind, Name};
@@ -545,4 +546,32 @@ fn a_folder_counts_its_syncs(rt: HostRuntime) {
     fs::create_dir(&rt, folder.as_str()).expect(&rt, "a folder");
     expect(&rt, counts_syncs(&rt, folder.as_str()));
     fs::remove_dir_all(&rt, folder.as_str()).expect(&rt, "removed");
+}
+
+/// A file of leases that is there, and can't be read, is not taken for none: a server would put a new one in its place.
+#[test]
+fn leases_that_can_not_be_read_are_not_passed_over(rt: HostRuntime) {
+    let folder = path_for(&rt, "unread").expect(&rt, "a path");
+    let folder = folder.as_str();
+    fs::create_dir(&rt, folder).expect(&rt, "a folder");
+    let path = path_in(&rt, folder, "leases");
+    fs::write(&rt, path.as_str(), "leases").expect(&rt, "written");
+    let machine = machine_refusing(&rt, path.as_str());
+    let disk = SystemDisk::open_folder(&machine, rt.alloc(), folder).expect(&rt, "open folder");
+    let refused = disk.read(rt.alloc()).err().map(|error| error.kind());
+    expect(&rt, refused == Some(io::ErrorKind::PermissionDenied));
+    fs::remove_dir_all(&rt, folder).expect(&rt, "removed");
+}
+
+/// A store whose folder is gone tells why it is broken.
+#[test]
+fn a_store_without_its_folder_says_why(rt: HostRuntime) {
+    let folder = path_for(&rt, "gone").expect(&rt, "a path");
+    fs::create_dir(&rt, folder.as_str()).expect(&rt, "a folder");
+    let mut store = open_new(&rt, folder.as_str(), &[]);
+    expect(&rt, store.error().is_none());
+    fs::remove_dir_all(&rt, folder.as_str()).expect(&rt, "removed");
+    expect(&rt, store.renew(&header(&rt), &[]).is_err());
+    let why = store.error().map(|error| error.kind());
+    expect(&rt, why == Some(io::ErrorKind::NotFound));
 }

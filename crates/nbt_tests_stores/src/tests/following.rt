@@ -25,7 +25,8 @@ const LIST: &str = "/proc/net/fib_trie";
 const DAY: u64 = 1_795_511_463_000;
 
 /// This machine with other lists of its addresses: one when it is read first, and another one from then on. Its monotonic clock shows so
-/// many milliseconds, and at each reading so many more, and a client sends, if there is one. It has memory for sockets or not.
+/// many milliseconds, and at each reading so many more, and a client sends, if there is one. It has memory for sockets or not. One file
+/// can't be opened, if its path is given.
 #[derive(Drop)]
 pub(super) struct Machine<'a, N> {
     pub host: &'a N,
@@ -36,6 +37,7 @@ pub(super) struct Machine<'a, N> {
     pub step: u64,
     pub client: Option<&'a Client>,
     pub has_memory: Cell<bool>,
+    pub closed: Option<&'a str>,
 }
 
 /// A client that sends two packets to a server.
@@ -65,6 +67,7 @@ fn machine_of<'a, N>(host: &'a N, list: &'a str, since_boot: u64) -> Machine<'a,
         step: 0,
         client: None,
         has_memory: Cell::new(true),
+        closed: None,
     }
 }
 
@@ -79,7 +82,15 @@ pub(super) fn machine_beside<'a, N>(host: &'a N, client: &'a Client) -> Machine<
         step: 10_000,
         client: Some(client),
         has_memory: Cell::new(true),
+        closed: None,
     }
+}
+
+/// A machine on which the file of this path can't be opened.
+pub(super) fn machine_refusing<'a, N>(host: &'a N, path: &'a str) -> Machine<'a, N> {
+    let mut machine = machine_of(host, "", 0);
+    machine.closed = Some(path);
+    machine
 }
 
 impl<'a, N> time::Clock for Machine<'a, N> {
@@ -124,6 +135,9 @@ impl<'a, N: Files> Files for Machine<'a, N> {
     type Dir = N::Dir;
 
     fn open_file(&self, how: &OpenOptions, path: &str) -> io::Result<N::File> {
+        if self.closed == Some(path) {
+            return Err(io::Error::from(io::ErrorKind::PermissionDenied));
+        }
         if path != LIST {
             return self.host.open_file(how, path);
         }

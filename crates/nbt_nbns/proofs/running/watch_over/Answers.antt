@@ -4,19 +4,19 @@ use Rattle.nbt_nbns.proofs.running.watch_over.Goals as goal
 pub returns-then-strict-clause-ok : goal.returns-then-strict-clause-ok
 returns-then-strict-clause-ok g c =
     let w = c.watch_to_its_end in
-    rw (c.if-strict.true, ← c.new-port.ensures) (on_ok_weaker w.result (λ watched. (w.new.port, watched)) w.ensures.ok)
+    rw (c.if-strict.true, ← c.new-port.ensures) (on_ok_weaker w.result (λ watched. (watched.0, w.new.started, watched.1)) w.ensures.ok)
 
 pub returns-then-strict-clause-err : goal.returns-then-strict-clause-err
 returns-then-strict-clause-err g c =
     let w = c.watch_to_its_end in
-    rw (c.if-strict.true, ← c.new-port.ensures) (on_err_weaker w.result (λ watched. (w.new.port, watched)) w.ensures.err)
+    rw (c.if-strict.true, ← c.new-port.ensures) (on_err_weaker w.result (λ watched. (watched.0, w.new.started, watched.1)) w.ensures.err)
 
-pub returns-else-strict-clause-ok : goal.returns-else-strict-clause-ok
-returns-else-strict-clause-ok g c =
+pub returns-clause-ok : goal.returns-clause-ok
+returns-clause-ok g c =
     let w = c.watch_to_its_end-else-strict in
-    rw (c.if-strict.false, ← c.new.ensures, ← c.new-port-else-strict.ensures) (on_ok_weaker w.result (λ watched. (w.new.port, watched)) w.ensures.ok)
+    rw (c.if-strict.false, ← c.new.ensures, ← c.new-port-else-strict.ensures) (on_ok_weaker w.result (λ watched. (watched.0, w.new.started, watched.1)) w.ensures.ok)
 
-pub returns-else-strict-clause-err : goal.returns-else-strict-clause-err
-returns-else-strict-clause-err g c =
+pub returns-clause-err : goal.returns-clause-err
+returns-clause-err g c =
     let w = c.watch_to_its_end-else-strict in
-    rw (c.if-strict.false, ← c.new.ensures, ← c.new-port-else-strict.ensures) (on_err_weaker w.result (λ watched. (w.new.port, watched)) w.ensures.err)
+    rw (c.if-strict.false, ← c.new.ensures, ← c.new-port-else-strict.ensures) (on_err_weaker w.result (λ watched. (watched.0, w.new.started, watched.1)) w.ensures.err)

@@ -1,0 +1,208 @@
+//! How a name server begins, over a machine: its clocks, its files, and its first line.
+
+ghost use Rattle.std.specs.Prelude.{◌≡◌, ◌+◌, ◌⊎◌, ℕ, List, OnOk, IfOk, IfErr};
+ghost use Rattle.std.specs.Io.KnownBytes.{Appends};
+ghost use Rattle.nbt_name.specs.declared.addr.Addr.{Addr};
+ghost use Rattle.nbt_lease.specs.Config.{milliseconds};
+ghost use Rattle.nbt_log.specs.Dates.{second_at};
+ghost use Rattle.nbt_nbns.specs.Begin.{IsBegin};
+ghost use Rattle.nbt_nbns.specs.Running.{log_of, keeper_of, origin_of, new_journal};
+ghost use Rattle.nbt_nbns.specs.Inner.Starting.{Starts, StartsNot};
+
+use crate::begin::write_begin;
+use crate::complaint::complain;
+use crate::content::Content;
+use crate::journal::Journal;
+use crate::keeper::Keeper;
+use crate::logger::Logger;
+use crate::place::FilePlace;
+use crate::running::NbnsArguments;
+use nbt_lease::{Config, Moment};
+use nbt_log::Dates;
+use nbt_port::{
+    Clock, Fault, MachineClock, SteadyClock, UdpPorts, print, readable_clock, steady_clock,
+};
+use nbt_report::{Origin, Tally};
+use nbt_server::Server;
+use std::alloc::Global;
+use std::io::Write;
+use std::net::Net;
+use std::rt::Files;
+use std::{io, time};
+
+/// The milliseconds of a second.
+const SECOND: u64 = 1_000;
+
+/// What goes on of a server that began, beside its port.
+#[derive(Drop)]
+pub(crate) struct Started<C, V> {
+    /// When it began.
+    pub at: Moment,
+    /// The clock by which it serves.
+    pub clock: C,
+    /// The server.
+    pub server: Server,
+    /// What sees each turn.
+    pub journal: V,
+}
+
+/// What sees the turns of a server over a machine.
+type MachineJournal<'a, M> = Journal<MachineClock<'a, M>, FilePlace<'a, M>>;
+
+/// Reads both clocks, looks at the files, and prints where a server serves, for how long it is silent, and until when; then the server
+/// begins, and limits its clients. Refused with `NoClock`, `Memory` or `Output` before anything is printed, and with `Output` where the
+/// line can't be written: a line in `errors` says why of each but `Memory`.
+pub(crate) fn start<'a, M: Net + time::Clock + Files, W: Write, E: Write>(
+    machine: &'a M,
+    alloc: Global,
+    arguments: &NbnsArguments,
+    port: &UdpPorts<'_, M>,
+    writer: &mut W,
+    errors: &mut E,
+) -> Result<Started<SteadyClock<'a, M>, MachineJournal<'a, M>>, Fault>
+    ensures ok { IfOk result (λ started. Starts arguments.now (W.contents writer.old) (W.contents writer.new) started) }
+    ensures err { IfErr result (StartsNot (W.contents writer.old) (W.contents writer.new)) }
+{
+    let mut clock = steady_clock(machine, arguments.bind.first(), errors)?;
+    let mut day = readable_clock(machine, arguments.bind.first(), errors)?;
+    let start = clock.now();
+    let dates = Dates {
+        moment: start,
+        time: day.now(),
+    };
+    let journal = tell_begin(
+        machine, alloc, arguments, port, dates, day, start, writer, errors,
+    )?;
+    let mut server = Server::start(alloc, arguments.config, start);
+    server.limit_clients(arguments.rows_per_client);
+    Ok(Started {
+        at: start,
+        clock,
+        server,
+        journal,
+    })
+}
+
+/// The journal of a server that begins so: once it is there, the first line is printed, and flushed. Refused as [`start`] is.
+fn tell_begin<'a, M: Net + time::Clock + Files, W: Write, E: Write>(
+    machine: &'a M,
+    alloc: Global,
+    arguments: &NbnsArguments,
+    port: &UdpPorts<'_, M>,
+    dates: Dates,
+    day: MachineClock<'a, M>,
+    start: Moment,
+    writer: &mut W,
+    errors: &mut E,
+) -> Result<MachineJournal<'a, M>, Fault>
+    ensures journal { IfOk result (λ journal. journal ≡ new_journal arguments.now dates day.entry start) }
+    ensures line { OnOk result ((at : List Addr) × (line : List ℕ) × IsBegin at arguments.now.config.longest (second_at dates (dates.moment + milliseconds arguments.now.config.longest)) line
+        × Appends (W.contents writer.old) (W.contents writer.new) line) }
+    ensures err { IfErr result (StartsNot (W.contents writer.old) (W.contents writer.new)) }
+{
+    let journal = journal_of(machine, alloc, arguments, dates, day, start, errors)?;
+    print_begin(alloc, port, &dates, arguments.config, writer, errors)?;
+    Ok(journal)
+}
+
+/// Prints where a server serves that starts now, for how long it is silent, and until when, and flushes. Refused: `Memory`, and
+/// then nothing is printed; `Output` where the line can't be written, and a line in `errors` says why.
+fn print_begin<M: Net + time::Clock + Files, W: Write, E: Write>(
+    alloc: Global,
+    port: &UdpPorts<'_, M>,
+    dates: &Dates,
+    config: Config,
+    writer: &mut W,
+    errors: &mut E,
+) -> Result<(), Fault>
+    ensures ok { OnOk result ((at : List Addr) × (line : List ℕ) × IsBegin at config.longest (second_at dates.now (dates.now.moment + milliseconds config.longest)) line
+        × Appends (W.contents writer.old) (W.contents writer.new) line) }
+    ensures err { IfErr result (λ fault. (fault ≡ Fault.Output) ⊎ ((fault ≡ Fault.Memory) × (W.contents writer.new ≡ W.contents writer.old))) }
+{
+    let at = port.addresses()?;
+    let silent = config.longest();
+    let until = dates.second_at(dates.moment.get() + 1000 * u64::from(silent));
+    let mut line = String::new(alloc);
+    write_begin(at.as_slice(), silent, until, &mut line)?;
+    match print(line.as_str(), writer) {
+        Ok(()) => Ok(()),
+        Err(error) => {
+            complain("the first line", error, errors);
+            Err(Fault::Output)
+        }
+    }
+}
+
+/// The journal of a server that serves from now on, by these dates and this clock of the day, and that first began at `start`, before
+/// its silence. Refused: `Memory`; `Output` where a file may not be put in place of what stands at its path, of the list of leases
+/// before that of the hosts, and that before that of the statistics, and a line in `errors` says why.
+pub fn journal_of<'a, M: Files, D: Drop, E: Write>(
+    machine: &'a M,
+    alloc: Global,
+    arguments: &NbnsArguments,
+    dates: Dates,
+    day: D,
+    start: Moment,
+    errors: &mut E,
+) -> Result<Journal<D, FilePlace<'a, M>>, Fault>
+    ensures ok { IfOk result (λ journal. journal ≡ new_journal arguments.now dates day start) }
+    ensures err { IfErr result (λ fault. (fault ≡ Fault.Output) ⊎ (fault ≡ Fault.Memory)) }
+{
+    let leases = keeper_of(machine, alloc, Content::Leases, &arguments.leases, errors)?;
+    let hosts = keeper_of(machine, alloc, Content::Hosts, &arguments.hosts, errors)?;
+    let stats = keeper_of(machine, alloc, Content::Stats, &arguments.stats, errors)?;
+    Ok(Journal {
+        dates,
+        day,
+        log: log_of(alloc, arguments.log, arguments.broadcasts),
+        leases,
+        hosts,
+        stats,
+        tally: Tally::new(),
+        origin: origin_of(&dates, start, arguments.config),
+    })
+}
+
+/// The log, if there is to be one.
+fn log_of(alloc: Global, is_wanted: bool, broadcasts: bool) -> Option<Logger>
+    ensures { result ≡ log_of is_wanted broadcasts }
+{
+    if is_wanted {
+        Some(Logger::new(alloc, broadcasts))
+    } else {
+        None
+    }
+}
+
+/// When a server began that serves from now on, by these dates, and that first began at `start`, before its silence.
+fn origin_of(dates: &Dates, start: Moment, config: Config) -> Origin
+    ensures { result ≡ origin_of dates.now start config.longest }
+{
+    Origin {
+        since: dates.second_at(dates.moment.get()),
+        speaks: start.get() + SECOND * u64::from(config.longest()),
+    }
+}
+
+/// What is kept in the file of this path, if there is to be one. Refused: `Memory`; `Output` where it may not be put in place of what
+/// stands there, and a line in `errors` says why.
+fn keeper_of<'a, M: Files, E: Write>(
+    machine: &'a M,
+    alloc: Global,
+    content: Content,
+    path: &Option<String>,
+    errors: &mut E,
+) -> Result<Option<Keeper<FilePlace<'a, M>>>, Fault>
+    ensures ok { IfOk result (λ kept. kept ≡ keeper_of content path.now) }
+    ensures err { IfErr result (λ fault. (fault ≡ Fault.Output) ⊎ (fault ≡ Fault.Memory)) }
+{
+    let Some(path) = path else {
+        return Ok(None);
+    };
+    let place = FilePlace::new(machine, alloc, content, path.as_str())?;
+    if let Some((path, error)) = place.taken() {
+        complain(path, error, errors);
+        return Err(Fault::Output);
+    }
+    Ok(Some(Keeper::new(alloc, place)))
+}
