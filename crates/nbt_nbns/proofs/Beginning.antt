@@ -34,7 +34,7 @@ is_at_first a start time first text begun_text port front s p f t is = cc
 pub is_started : (a : NbnsArguments) (start clock time day : ℕ) (first server : ServerValue) (journal : Journal ℕ FileValue)
     → clock ≡ start → day ≡ time → server ≡ limited (Some a.rows_per_client) first → journal ≡ new_journal a (record { moment = start; time = time }) day start
     → ◌≡◌ {A = Started ℕ (Journal ℕ FileValue)} (record { at = start; clock = clock; server = server; journal = journal })
-        (record { at = start; clock = start; server = limited (Some a.rows_per_client) first; journal = new_journal a (record { moment = start; time = time }) time start })
+    (record { at = start; clock = start; server = limited (Some a.rows_per_client) first; journal = new_journal a (record { moment = start; time = time }) time start })
 is_started a start clock time day first server journal c d s j = cc
 
 pub starts : (a : NbnsArguments) (old_text text : Option (List ℕ)) (boot start clock day_before time day : ℕ) (first server : ServerValue) (journal : Journal ℕ FileValue)

@@ -19,6 +19,6 @@ told_begin at longest silent until second before after shown old new same_longes
 pub returns-in-Ok-clause-ok : goal.returns-in-Ok-clause-ok
 returns-in-Ok-clause-ok g c =
     let told = told_begin c.as_slice.result.now c.args.config.longest c.longest-silent.result c.second_at-until.result (second_at c.args.dates.now (c.args.dates.now.moment + milliseconds c.args.config.longest)) (string_bytes c.new-line.result)
-        (string_bytes c.write_begin.new.out) c.as_str.result.now (g.W.Write.contents c.args.writer.now) (g.W.Write.contents c.print.new.writer) c.longest-silent.ensures.value
-        (c.second_at-until.ensures ∙ ap (second_at c.args.dates.now) (rw (c.get.ensures.value, c.from.ensures, c.longest-silent.ensures.value) refl)) c.new-line.ensures.bytes c.as_str.ensures.value c.in_ok-write_begin.ensures c.in-Ok.ensures in
+    (string_bytes c.write_begin.new.out) c.as_str.result.now (g.W.Write.contents c.args.writer.now) (g.W.Write.contents c.print.new.writer) c.longest-silent.ensures.value
+    (c.second_at-until.ensures ∙ ap (second_at c.args.dates.now) (rw (c.get.ensures.value, c.from.ensures, c.longest-silent.ensures.value) refl)) c.new-line.ensures.bytes c.as_str.ensures.value c.in_ok-write_begin.ensures c.in-Ok.ensures in
     (c.as_slice.result.now, told.0, told.1, told.2)
