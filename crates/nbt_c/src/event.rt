@@ -98,19 +98,19 @@ fn name_of(message: &Message<'_>) -> CName
     ensures { result ≡ stored_if (about (message_if (Some message.now))) }
 {
     match message {
-        Message::Registration(registration) => CName::of(&registration.name),
-        Message::Overwrite(registration) => CName::of(&registration.name),
-        Message::Refresh(registration) => CName::of(&registration.name),
-        Message::Registered { registration, .. } => CName::of(&registration.name),
-        Message::Release { name, .. } => CName::of(name),
-        Message::Query { name, .. } => CName::of(name),
-        Message::StatusRequest { name, .. } => CName::of(name),
-        Message::Released { name, .. } => CName::of(name),
-        Message::Found { name, .. } => CName::of(name),
-        Message::Status { name, .. } => CName::of(name),
-        Message::Wait { name, .. } => CName::of(name),
+        Message::Registration(registration) => CName::of(&registration.name.to_name()),
+        Message::Overwrite(registration) => CName::of(&registration.name.to_name()),
+        Message::Refresh(registration) => CName::of(&registration.name.to_name()),
+        Message::Registered { registration, .. } => CName::of(&registration.name.to_name()),
+        Message::Release { name, .. } => CName::of(&name.to_name()),
+        Message::Query { name, .. } => CName::of(&name.to_name()),
+        Message::StatusRequest { name, .. } => CName::of(&name.to_name()),
+        Message::Released { name, .. } => CName::of(&name.to_name()),
+        Message::Found { name, .. } => CName::of(&name.to_name()),
+        Message::Status { name, .. } => CName::of(&name.to_name()),
+        Message::Wait { name, .. } => CName::of(&name.to_name()),
         Message::NotFound { name, .. } => match name {
-            Some(name) => CName::of(name),
+            Some(name) => CName::of(&name.to_name()),
             None => CName::none(),
         },
     }

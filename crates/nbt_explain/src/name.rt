@@ -130,7 +130,7 @@ fn write_counts(packet: &Packet<'_>, out: &mut String) -> Result<(), AllocError>
 }
 
 /// How many questions stand in a section.
-fn questions_in(section: &Option<Question>) -> u8
+fn questions_in(section: &Option<Question<'_>>) -> u8
     ensures { result ≡ count_of section.now }
 {
     match section {
@@ -150,7 +150,7 @@ fn records_in(section: &Option<Record<'_>>) -> u8
 }
 
 /// Appends the line of the question, where there is one.
-fn write_question(section: &Option<Question>, out: &mut String) -> Result<(), AllocError>
+fn write_question(section: &Option<Question<'_>>, out: &mut String) -> Result<(), AllocError>
     ensures { OnOk result ((text : List ℕ) × PrintsQuestion section.now text
         × (string_bytes out.new ≡ string_bytes out.old ++ text)) }
 {
@@ -158,7 +158,7 @@ fn write_question(section: &Option<Question>, out: &mut String) -> Result<(), Al
         return Ok(());
     };
     out.push_str("Question: ")?;
-    write_named(&question.name, out)?;
+    write_named(&question.name.to_name(), out)?;
     write_type_and_class(question.rtype, question.class, out)?;
     end_line(out)
 }
@@ -176,7 +176,7 @@ fn write_record(
         return Ok(());
     };
     out.push_str(label)?;
-    write_named(&resource.name, out)?;
+    write_named(&resource.name.to_name(), out)?;
     write_fields(resource, out)?;
     write_rdata(resource, out)
 }

@@ -118,19 +118,25 @@ impl Front {
                 name,
                 kind,
                 addr,
-            } => self.release(ip, id, name, kind, addr, reply),
-            Message::Query { id, name } => self.find(id, name, reply),
+            } => self.release(ip, id, name.to_name(), kind, addr, reply),
+            Message::Query { id, name } => self.find(id, name.to_name(), reply),
             _ => None,
         }
     }
 
     /// Decides of a registration or a refresh.
-    fn claim(&self, ip: u32, claim: Registration, reply: &mut ArrayVec<u8, 576>) -> Option<Decision>
-        ensures decided { IfSome result (λ decision. (m : MessageValue) → AsksFor m claim → (r : MessageValue) × Decides self.now ip m decision r × AreWritten (Some r) reply.new.items) }
-        ensures passed { IfNone result ((m : MessageValue) → AsksFor m claim → Passes self.now ip m) }
+    fn claim(
+        &self,
+        ip: u32,
+        claim: Registration<'_>,
+        reply: &mut ArrayVec<u8, 576>,
+    ) -> Option<Decision>
+        ensures decided { IfSome result (λ decision. (m : MessageValue) → AsksFor m claim.entry → (r : MessageValue) × Decides self.now ip m decision r × AreWritten (Some r) reply.new.items) }
+        ensures passed { IfNone result ((m : MessageValue) → AsksFor m claim.entry → Passes self.now ip m) }
         ensures left { IfNone result (reply.new.items ≡ reply.old.items) }
     {
-        let Some(fixed) = self.fixed.get(&claim.name) else {
+        let name = claim.name.to_name();
+        let Some(fixed) = self.fixed.get(&name) else {
             return self.turn_away(ip, claim, reply);
         };
         if fixed.is_held_by(ip, claim.kind, claim.addr) {
@@ -146,14 +152,15 @@ impl Front {
     fn overwrite(
         &self,
         ip: u32,
-        claim: Registration,
+        claim: Registration<'_>,
         reply: &mut ArrayVec<u8, 576>,
     ) -> Option<Decision>
-        ensures decided { IfSome result (λ decision. (r : MessageValue) × Decides self.now ip (overwrite claim) decision r × AreWritten (Some r) reply.new.items) }
-        ensures passed { IfNone result (Passes self.now ip (overwrite claim)) }
+        ensures decided { IfSome result (λ decision. (r : MessageValue) × Decides self.now ip (overwrite claim.entry) decision r × AreWritten (Some r) reply.new.items) }
+        ensures passed { IfNone result (Passes self.now ip (overwrite claim.entry)) }
         ensures left { IfNone result (reply.new.items ≡ reply.old.items) }
     {
-        match self.fixed.get(&claim.name) {
+        let name = claim.name.to_name();
+        match self.fixed.get(&name) {
             Some(_) => {
                 let name = respond(claim, ACTIVE, 0, reply);
                 Some(Decision::FixedRefused(name))
@@ -166,12 +173,12 @@ impl Front {
     fn turn_away(
         &self,
         ip: u32,
-        claim: Registration,
+        claim: Registration<'_>,
         reply: &mut ArrayVec<u8, 576>,
     ) -> Option<Decision>
         requires free { fixed_of self.now.fixed claim.name ≡ None }
-        ensures decided { IfSome result (λ decision. (m : MessageValue) → Claims m claim → (r : MessageValue) × Decides self.now ip m decision r × AreWritten (Some r) reply.new.items) }
-        ensures passed { IfNone result ((m : MessageValue) → Claims m claim → Passes self.now ip m) }
+        ensures decided { IfSome result (λ decision. (m : MessageValue) → Claims m claim.entry → (r : MessageValue) × Decides self.now ip m decision r × AreWritten (Some r) reply.new.items) }
+        ensures passed { IfNone result ((m : MessageValue) → Claims m claim.entry → Passes self.now ip m) }
         ensures left { IfNone result (reply.new.items ≡ reply.old.items) }
     {
         if self.allows(ip) {
@@ -204,10 +211,10 @@ impl Front {
     {
         let fixed = self.fixed.get(&name)?;
         if fixed.is_held_by(ip, kind, addr) {
-            respond_release(id, 0, name, kind, addr, reply);
+            respond_release(id, 0, &name, kind, addr, reply);
             return Some(Decision::FixedConfirmed);
         }
-        respond_release(id, ACTIVE, name.copy(), kind, addr, reply);
+        respond_release(id, ACTIVE, &name, kind, addr, reply);
         Some(Decision::FixedRefused(name))
     }
 
@@ -218,19 +225,19 @@ impl Front {
         ensures left { IfNone result (reply.new.items ≡ reply.old.items) }
     {
         let fixed = self.fixed.get(&name)?;
-        respond_found(id, name, self.config.longest(), fixed, reply);
+        respond_found(id, &name, self.config.longest(), fixed, reply);
         Some(Decision::FixedFound)
     }
 }
 
 /// Leaves in `reply` the response to a registration, a refresh or an overwrite (RFC 1002 sections 4.2.5 and 4.2.6). Returns the claim's
 /// name.
-fn respond(claim: Registration, rcode: u8, ttl: u32, reply: &mut ArrayVec<u8, 576>) -> Name
+fn respond(claim: Registration<'_>, rcode: u8, ttl: u32, reply: &mut ArrayVec<u8, 576>) -> Name
     requires { rcode ≤ 15 }
-    ensures name { result ≡ claim.name }
-    ensures written { AreWritten (Some (registered rcode (record claim { ttl = ttl }))) reply.new.items }
+    ensures name { result ≡ claim.entry.name }
+    ensures written { AreWritten (Some (registered rcode (record claim.entry { ttl = ttl }))) reply.new.items }
 {
-    let name = claim.name.copy();
+    let name = claim.name.to_name();
     let registration = Registration { ttl, ..claim };
     write(
         &Message::Registered {
@@ -246,18 +253,18 @@ fn respond(claim: Registration, rcode: u8, ttl: u32, reply: &mut ArrayVec<u8, 57
 fn respond_release(
     id: u16,
     rcode: u8,
-    name: Name,
+    name: &Name,
     kind: Kind,
     addr: u32,
     reply: &mut ArrayVec<u8, 576>,
 )
     requires { rcode ≤ 15 }
-    ensures { AreWritten (Some (released id rcode name kind addr)) reply.new.items }
+    ensures { AreWritten (Some (released id rcode name.now kind addr)) reply.new.items }
 {
     let message = Message::Released {
         id,
         rcode,
-        name,
+        name: name.lend(),
         kind,
         addr,
     };
@@ -265,15 +272,15 @@ fn respond_release(
 }
 
 /// Leaves in `reply` the positive response to a query for a fixed name (RFC 1002 section 4.2.13).
-fn respond_found(id: u16, name: Name, ttl: u32, fixed: &Fixed, reply: &mut ArrayVec<u8, 576>)
-    ensures { AreWritten (Some (found id name ttl (entries_of fixed.now) false)) reply.new.items }
+fn respond_found(id: u16, name: &Name, ttl: u32, fixed: &Fixed, reply: &mut ArrayVec<u8, 576>)
+    ensures { AreWritten (Some (found id name.now ttl (entries_of fixed.now) false)) reply.new.items }
 {
     let entries = fixed.entries();
-    let all_fit = fixed.addrs().len() <= entries_most(&name);
+    let all_fit = fixed.addrs().len() <= entries_most(name);
     prove!(all_fit);
     let message = Message::Found {
         id,
-        name,
+        name: name.lend(),
         ttl,
         entries: entries.as_slice(),
         cut: false,

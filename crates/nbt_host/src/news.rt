@@ -74,8 +74,8 @@ fn name_told(message: &Option<Message<'_>>) -> Option<Name>
     ensures { result ≡ name_told (message_if message.now) }
 {
     match message {
-        Some(Message::Registered { registration, .. }) => Some(registration.name.copy()),
-        Some(Message::Released { name, .. }) => Some(name.copy()),
+        Some(Message::Registered { registration, .. }) => Some(registration.name.to_name()),
+        Some(Message::Released { name, .. }) => Some(name.to_name()),
         _ => None,
     }
 }

@@ -9,6 +9,7 @@ mod addr;
 mod fault;
 mod form;
 pub mod laws;
+mod lent;
 mod name;
 mod reader;
 mod reading;
@@ -18,6 +19,7 @@ mod words;
 
 pub use addr::{Addr, Kind};
 pub use fault::{NameFault, NameFaultKind, NameRefusal};
+pub use lent::{LentName, find_in};
 pub use name::Name;
 pub use reading::{read_in, read_in_counted, read_plain};
 pub use steps::Steps;

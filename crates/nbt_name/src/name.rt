@@ -32,7 +32,7 @@ impl Model for Name {
 
 impl Name {
     /// The first octet of the name that stands for all names, `*` (RFC 1002 section 4.2.17).
-    const STAR: u8 = 0x2A;
+    pub(crate) const STAR: u8 = 0x2A;
 
     /// The name of sixteen octets and a scope, given as its labels, each after its length octet, without the closing
     /// zero. Refused in this order: `Star` (1) if the first octet is 0x2A; `ScopeLong` (2) if the scope has more than 221
@@ -152,14 +152,27 @@ impl Name {
         ensures fits { length (wire self.now) ≤ 255 }
         ensures name { IsName self.now }
     {
-        out.push(LETTERS);
-        for octet in &self.octets {
-            out.push(b'A' + *octet / 16);
-            out.push(b'A' + *octet % 16);
-        }
-        out.try_extend_from_slice(self.scope.as_slice()).unwrap();
-        out.push(0);
+        put_form(&self.octets, self.scope.as_slice(), out);
     }
+}
+
+/// Appends the wire form of a name of sixteen octets and a scope.
+pub(crate) fn put_form<const CAP: usize>(
+    octets: &[u8; 16],
+    scope: &[u8],
+    out: &mut ArrayVec<u8, CAP>,
+)
+    requires name { IsName (name_of octets.now scope.now) }
+    requires room { length out.old.items + 255 ≤ CAP }
+    ensures { out.new.items ≡ out.old.items ++ wire (name_of octets.now scope.now) }
+{
+    out.push(LETTERS);
+    for octet in octets {
+        out.push(b'A' + *octet / 16);
+        out.push(b'A' + *octet % 16);
+    }
+    out.try_extend_from_slice(scope).unwrap();
+    out.push(0);
 }
 
 /// Whether these are labels of 1 to 63 octets, each after its length octet (RFC 1002 section 4.1).
@@ -178,7 +191,7 @@ fn is_scope(scope: &[u8]) -> bool
 }
 
 /// A scope's octets in a list of their own.
-fn scope_of(scope: &[u8]) -> ArrayVec<u8, 221>
+pub(crate) fn scope_of(scope: &[u8]) -> ArrayVec<u8, 221>
     requires { length scope.now ≤ 221 }
     ensures { result.items ≡ scope.now }
 {

@@ -2,8 +2,9 @@
 
 ghost use Rattle.std.specs.Prelude.{◌≡◌, ℕ, ◌+◌, ◌*◌, ◌<◌, ◌≤◌, ◌↔◌, Ok, Err, IfOk, IfErr, length};
 ghost use Rattle.nbt_name.specs.declared.fault.NameFault.{NameFault};
-ghost use Rattle.nbt_name.specs.Wire.{NameValue};
-ghost use Rattle.nbt_name.specs.Reading.{steps_on, Stands, Fails, NameAt, PlainNameAt, FaultAt, PlainFaultAt};
+ghost use Rattle.nbt_name.specs.Wire.{NameValue, name_of};
+ghost use Rattle.nbt_name.specs.Inner.Reader.{spot_of};
+ghost use Rattle.nbt_name.specs.Reading.{start, steps_on, Stands, Fails, NameAt, PlainNameAt, FaultAt, PlainFaultAt};
 
 use crate::fault::NameFault;
 use crate::form::Form;
@@ -89,6 +90,27 @@ fn read<L: Ledger>(
     ensures step_count { steps.new ≤ steps.old + 112 * (length octets.now + 1) }
 {
     let mut reader = Reader::new(place);
+    let (sixteen, next) = pass(&mut reader, form, octets, place, steps)?;
+    Ok((Name::from_parts(sixteen, reader.scope), next))
+}
+
+/// Has a reader pass the name at `place`, in one of the two forms, and returns the sixteen octets and the place after the
+/// name. The reader then has the scope.
+pub(crate) fn pass<L: Ledger>(
+    reader: &mut Reader,
+    form: Form,
+    octets: &[u8],
+    place: usize,
+    steps: &mut Steps<L>,
+) -> Result<([u8; 16], usize), NameFault>
+    requires place { place ≤ length octets.now }
+    requires starts { spot_of reader.old ≡ start place }
+    ensures name { IfOk result (λ read. Stands form octets.now place (name_of read.0 reader.new.scope.items) read.1) }
+    ensures fault { IfErr result (Fails form octets.now place) }
+    ensures steps { IfOk result (λ read. (stands : Stands form octets.now place (name_of read.0 reader.new.scope.items) read.1) → steps.new ≡ steps.old + steps_on stands.path + 1) }
+    ensures refused { IfErr result (λ fault. (fails : Fails form octets.now place fault) → steps.new ≡ steps.old + steps_on fails.path) }
+    ensures step_count { steps.new ≤ steps.old + 112 * (length octets.now + 1) }
+{
     'steps: loop {
         let progress = reader.turn(form, octets)?;
         steps.add_one();
@@ -96,7 +118,7 @@ fn read<L: Ledger>(
             Progress::Moved => {}
             Progress::Closed(sixteen) => {
                 let next = reader.resume.unwrap_or(reader.place + 1);
-                return Ok((Name::from_parts(sixteen, reader.scope), next));
+                return Ok((sixteen, next));
             }
         }
     }

@@ -106,7 +106,7 @@ pub fn reply_to<const N: usize>(
     ensures { sent_back node.now now (message_if message.now) (told_of event.entry) out.old.items ≡ (if result then Some out.new.items else None) }
 {
     match message {
-        Some(Message::Query { id, name }) => answer(node, now, *id, name, out),
+        Some(Message::Query { id, name }) => answer(node, now, *id, &name.to_name(), out),
         _ => is_reply(event),
     }
 }

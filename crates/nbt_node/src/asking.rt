@@ -15,14 +15,14 @@ pub fn id_after(id: u16) -> u16
 }
 
 /// What a node with this address says of a name in a request for it.
-pub fn claim(own: u32, id: u16, name: &Name, kind: Kind, ttl: u32) -> Registration
+pub fn claim(own: u32, id: u16, name: &Name, kind: Kind, ttl: u32) -> Registration<'_>
     ensures value { result ≡ record { id = id; name = name.now; kind = kind; addr = own; ttl = ttl } }
     ensures whole { IsRegistration result }
 {
     let _is_a_name = name.octets();
     Registration {
         id,
-        name: name.copy(),
+        name: name.lend(),
         kind,
         addr: own,
         ttl,
@@ -30,14 +30,14 @@ pub fn claim(own: u32, id: u16, name: &Name, kind: Kind, ttl: u32) -> Registrati
 }
 
 /// The request that releases a name.
-pub fn release<'a>(own: u32, id: u16, name: &Name, kind: Kind) -> Message<'a>
+pub fn release(own: u32, id: u16, name: &Name, kind: Kind) -> Message<'_>
     ensures value { message_of result ≡ release id name.now kind own }
     ensures whole { HoldsNumbers (message_of result) }
 {
     let _is_a_name = name.octets();
     Message::Release {
         id,
-        name: name.copy(),
+        name: name.lend(),
         kind,
         addr: own,
     }

@@ -11,7 +11,7 @@ ghost use Rattle.nbt_node.specs.Datagrams.{same_end, wants, tells_name, ends};
 use crate::transaction::{is_next, is_over, next_due};
 use arrayvec::ArrayVec;
 use nbt_lease::Moment;
-use nbt_name::{Addr, Name};
+use nbt_name::{Addr, LentName, Name};
 use nbt_packet::{Message, write};
 
 /// What a lookup asks for.
@@ -44,12 +44,12 @@ pub fn is_same_end(a: Addr, b: Addr) -> bool
 
 impl Lookup {
     /// The request of a lookup.
-    pub fn question<'a>(&self) -> Message<'a>
+    pub fn question(&self) -> Message<'_>
         ensures value { message_of result ≡ question self.now }
         ensures numbers { HoldsNumbers (message_of result) }
     {
         let _is_a_name = self.name.octets();
-        let (id, name) = (self.id, self.name.copy());
+        let (id, name) = (self.id, self.name.lend());
         match self.wanted {
             Wanted::Entries => Message::Query { id, name },
             Wanted::Names => Message::StatusRequest { id, name },
@@ -119,10 +119,10 @@ impl Lookup {
     {
         match message {
             Message::Found { id, name, .. } => {
-                self.wanted == Wanted::Entries && *id == self.id && *name == self.name
+                self.wanted == Wanted::Entries && *id == self.id && name.is(&self.name)
             }
             Message::Status { id, name, .. } => {
-                self.wanted == Wanted::Names && *id == self.id && *name == self.name
+                self.wanted == Wanted::Names && *id == self.id && name.is(&self.name)
             }
             Message::NotFound { id, name, .. } => *id == self.id && self.is_named(name),
             _ => false,
@@ -130,11 +130,11 @@ impl Lookup {
     }
 
     /// Whether this is the lookup's name, where it is one.
-    fn is_named(&self, name: &Option<Name>) -> bool
+    fn is_named(&self, name: &Option<LentName<'_>>) -> bool
         ensures { result ≡ tells_name name.now self.now.name }
     {
         match name {
-            Some(name) => *name == self.name,
+            Some(name) => name.is(&self.name),
             None => true,
         }
     }

@@ -284,8 +284,8 @@ impl<const N: usize> Node<N> {
         }
         match first_due(&self.slots, self.addr.ip, self.next_id, self.config, now) {
             Some(sending) => {
-                self.change(now, &sending.name, &sending.state, sending.next_id);
-                write(&sending.message, out);
+                let (name, state, next_id) = sending.written(out);
+                self.change(now, &name, &state, next_id);
                 Ok(Some(self.server))
             }
             None => Ok(self.poll_lookup(now, out)),
@@ -468,10 +468,11 @@ impl<const N: usize> Node<N> {
                 rcode,
                 registration,
             } => {
-                let state = self.state_at(now, &registration.name);
+                let name = registration.name.to_name();
+                let state = self.state_at(now, &name);
                 let seconds = self.config.granted(registration.ttl);
                 let outcome = on_registered(&state, *rcode, registration.id, seconds);
-                self.hear(now, from, &registration.name, &outcome.state, outcome.event)
+                self.hear(now, from, &name, &outcome.state, outcome.event)
             }
             Message::Released {
                 id,
@@ -479,16 +480,18 @@ impl<const N: usize> Node<N> {
                 name,
                 ..
             } => {
-                let state = self.state_at(now, name);
+                let name = name.to_name();
+                let state = self.state_at(now, &name);
                 let outcome = on_released(&state, *rcode, *id);
-                self.hear(now, from, name, &outcome.state, outcome.event)
+                self.hear(now, from, &name, &outcome.state, outcome.event)
             }
             Message::Wait { id, name, ttl } => {
-                let state = self.state_at(now, name);
+                let name = name.to_name();
+                let state = self.state_at(now, &name);
                 let outcome = on_wait(&state, *id, *ttl, now);
-                self.hear(now, from, name, &outcome.state, outcome.event)
+                self.hear(now, from, &name, &outcome.state, outcome.event)
             }
-            Message::StatusRequest { id, name } => self.list_names(now, *id, name, out),
+            Message::StatusRequest { id, name } => self.list_names(now, *id, &name.to_name(), out),
             Message::Found { entries, cut, .. } => {
                 let found = Event::Found { entries, cut: *cut };
                 self.end_lookup(now, from, message, found)

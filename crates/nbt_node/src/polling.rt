@@ -4,7 +4,8 @@ ghost use Rattle.std.specs.Prelude.{◌≡◌, ℕ, List, ◌∷◌, map, Option
 ghost use Rattle.nbt_node.specs.declared.state.Slot.{Slot as Kept};
 ghost use Rattle.nbt_name.specs.declared.addr.Kind.{Kind as NameKind};
 ghost use Rattle.nbt_name.specs.Wire.{NameValue};
-ghost use Rattle.nbt_packet.specs.Message.{refresh};
+ghost use Rattle.nbt_packet.specs.Message.{Fits, message_of, refresh};
+ghost use Rattle.nbt_packet.specs.Spelling.{AreWritten, HasFewRows};
 ghost use Rattle.nbt_node.specs.Node.{NodeValue, settled_slot};
 ghost use Rattle.nbt_node.specs.Moves as spec;
 ghost use Rattle.nbt_node.specs.Moves.{Move, poll, nothing, is_due};
@@ -14,23 +15,37 @@ ghost use Rattle.nbt_node.specs.Inner.Sending.{IsSending};
 use crate::asking::{claim, id_after, release};
 use crate::state::{Slot, State};
 use crate::transaction::{Transaction, is_next};
+use arrayvec::ArrayVec;
 use nbt_lease::{Config, Moment};
-use nbt_name::Name;
-use nbt_packet::Message;
+use nbt_name::{LentName, Name};
+use nbt_packet::{Message, write};
 
 /// What is sent about a name, and what is then its state and the next id.
 #[derive(Drop)]
 pub struct Sending<'a> {
-    pub name: Name,
+    pub name: LentName<'a>,
     pub state: State,
     pub message: Message<'a>,
     pub next_id: u16,
 }
 
+impl Sending<'_> {
+    /// Leaves in `out` what is sent, and returns the name, its state and the next id.
+    pub fn written(self, out: &mut ArrayVec<u8, 576>) -> (Name, State, u16)
+        requires fits { Fits (message_of self.message) }
+        requires row_count { HasFewRows (message_of self.message) }
+        ensures kept { result ≡ (self.entry.name, self.entry.state, self.entry.next_id) }
+        ensures written { AreWritten (Some (message_of self.entry.message)) out.new.items }
+    {
+        write(&self.message, out);
+        (self.name.to_name(), self.state, self.next_id)
+    }
+}
+
 /// What is to be sent about a name, if anything, by a node with this address and next id.
 fn polled<'a>(
     state: &State,
-    name: &Name,
+    name: &'a Name,
     own: u32,
     id: u16,
     config: Config,
@@ -50,7 +65,7 @@ fn polled<'a>(
                 return None;
             }
             Some(Sending {
-                name: name.copy(),
+                name: name.lend(),
                 state: State::Asking {
                     kind: *kind,
                     ttl: *ttl,
@@ -66,7 +81,7 @@ fn polled<'a>(
                 return None;
             }
             Some(Sending {
-                name: name.copy(),
+                name: name.lend(),
                 state: State::Releasing {
                     kind: *kind,
                     last: now,
@@ -89,7 +104,7 @@ fn polled<'a>(
                 None => return None,
             };
             Some(Sending {
-                name: name.copy(),
+                name: name.lend(),
                 message: Message::Refresh(claim(own, refresh.id, name, *kind, *ttl)),
                 state: State::Held {
                     kind: *kind,
@@ -139,7 +154,7 @@ fn next_refresh(
 
 /// The same of a slot, once it is settled at `now`.
 fn slot_due<'a>(
-    slot: &Option<Slot>,
+    slot: &'a Option<Slot>,
     own: u32,
     id: u16,
     config: Config,
@@ -163,7 +178,7 @@ fn slot_due<'a>(
 
 /// The same of the first slot that has something to send.
 pub fn first_due<'a>(
-    slots: &[Option<Slot>],
+    slots: &'a [Option<Slot>],
     own: u32,
     id: u16,
     config: Config,

@@ -57,7 +57,7 @@ pub fn write_names(id: u16, name: &Name, names: &[u8], out: &mut ArrayVec<u8, 57
     let _is_a_name = name.octets();
     let reply = Message::Status {
         id,
-        name: name.copy(),
+        name: name.lend(),
         names,
     };
     write(&reply, out);

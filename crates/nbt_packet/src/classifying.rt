@@ -141,14 +141,14 @@ fn claim_in<'a>(packet: &Packet<'a>) -> Result<Message<'a>, Reason>
 }
 
 /// Whether a question and an additional record are of one name.
-fn have_one_name(question: &Question, additional: &Record<'_>) -> bool
+fn have_one_name(question: &Question<'_>, additional: &Record<'_>) -> bool
     ensures { IsTrue result ↔ (question.now.name ≡ additional.now.name) }
 {
-    question.name == additional.name
+    question.name.is_same(&additional.name)
 }
 
 /// The message of a claim, by its OPCODE and RD.
-fn claim_of<'a>(packet: &Packet<'a>, additional: &Record<'_>) -> Message<'a>
+fn claim_of<'a>(packet: &Packet<'_>, additional: &Record<'a>) -> Message<'a>
     requires shape { HasShape packet.now.flags claiming }
     requires unicast { IsUnicast packet.now.flags }
     requires claims { Claims (packet_of packet.now) (internet_question additional.now.name nb) (internet_record additional.now.name nb additional.now.ttl additional.now.rdata.now) }
@@ -326,7 +326,7 @@ fn names_in(rdata: &[u8]) -> &[u8]
 }
 
 /// What a record of one entry says.
-fn registration_in(packet: &Packet<'_>, resource: &Record<'_>) -> Registration
+fn registration_in<'a>(packet: &Packet<'_>, resource: &Record<'a>) -> Registration<'a>
     requires { length resource.now.rdata.now ≡ 6 }
     ensures id { result.id ≡ packet.now.id }
     ensures name { result.name ≡ resource.now.name }

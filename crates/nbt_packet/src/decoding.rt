@@ -10,7 +10,7 @@ ghost use Rattle.nbt_packet.specs.Inner.Decoding.{IsHeaderOf, CountFault};
 use crate::fault::{Fault, FaultKind};
 use crate::packet::{Packet, Question, Record};
 use crate::wire::{ANCOUNT, ARCOUNT, FLAGS, HEADER, NAME_TRN_ID, NSCOUNT, QDCOUNT};
-use nbt_name::{NameFaultKind, read_in, read_long, read_word};
+use nbt_name::{NameFaultKind, find_in, read_long, read_word};
 
 /// Reads the packet that the octets begin with, and returns it with its length in octets. The fault is the first one in
 /// reading order: `TooMany` (6) at a count above 1 (NSCOUNT: above 0); a name's own (1 to 5); `Short` (1) at the octets'
@@ -107,7 +107,7 @@ fn question_section(
     octets: &[u8],
     count: u16,
     place: usize,
-) -> Result<(Option<Question>, usize), Fault>
+) -> Result<(Option<Question<'_>>, usize), Fault>
     requires one { count ≤ 1 }
     requires within { place ≤ length octets.now }
     ensures section { IfOk result (λ read. SectionAt (QuestionAt octets.now) count place read.0 read.1) }
@@ -141,13 +141,13 @@ fn record_section(
 }
 
 /// The question that stands here, and the place after it (RFC 1002 section 4.2.1.2).
-fn question_at(octets: &[u8], place: usize) -> Result<(Question, usize), Fault>
+fn question_at(octets: &[u8], place: usize) -> Result<(Question<'_>, usize), Fault>
     requires { place ≤ length octets.now }
     ensures question { IfOk result (λ read. QuestionAt octets.now place read.0 read.1) }
     ensures within { IfOk result (λ read. read.1 ≤ length octets.now) }
     ensures fault { IfErr result (QuestionFault octets.now place) }
 {
-    let (name, named) = read_in(octets, place)?;
+    let (name, named) = find_in(octets, place)?;
     if octets.len() - named < 4 {
         return Err(short_of(octets));
     }
@@ -166,7 +166,7 @@ fn record_at(octets: &[u8], place: usize) -> Result<(Record<'_>, usize), Fault>
     ensures within { IfOk result (λ read. read.1 ≤ length octets.now) }
     ensures fault { IfErr result (RecordFault octets.now place) }
 {
-    let (name, named) = read_in(octets, place)?;
+    let (name, named) = find_in(octets, place)?;
     if octets.len() - named < 10 {
         return Err(short_of(octets));
     }

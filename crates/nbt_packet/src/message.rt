@@ -3,15 +3,15 @@
 ghost use Rattle.std.specs.Prelude.{◌≡◌, ◌↔◌, IsTrue};
 
 use crate::wire::{ADDR_ENTRIES_MOST, ADDR_ENTRY, NODE_NAME, NODE_NAMES_MOST, RCODE_MOST};
-use nbt_name::{Kind, Name};
+use nbt_name::{Kind, LentName};
 
 /// What a node says of a name that it requests or has: the name, its kind, its address, and for how long.
 #[derive(Debug, Drop)]
-pub struct Registration {
+pub struct Registration<'a> {
     /// The transaction's id.
     pub id: u16,
     /// The name.
-    pub name: Name,
+    pub name: LentName<'a>,
     /// Unique, or a group's.
     pub kind: Kind,
     /// NB_ADDRESS, the node's 32-bit address.
@@ -24,17 +24,17 @@ pub struct Registration {
 #[derive(Debug, Drop)]
 pub enum Message<'a> {
     /// NAME REGISTRATION REQUEST (RFC 1002 section 4.2.2).
-    Registration(Registration),
+    Registration(Registration<'a>),
     /// NAME OVERWRITE REQUEST and DEMAND (RFC 1002 section 4.2.3).
-    Overwrite(Registration),
+    Overwrite(Registration<'a>),
     /// NAME REFRESH REQUEST (RFC 1002 section 4.2.4).
-    Refresh(Registration),
+    Refresh(Registration<'a>),
     /// NAME RELEASE REQUEST and DEMAND (RFC 1002 section 4.2.9).
     Release {
         /// The transaction's id.
         id: u16,
         /// The name that is released.
-        name: Name,
+        name: LentName<'a>,
         /// Unique, or a group's.
         kind: Kind,
         /// NB_ADDRESS, the node's 32-bit address.
@@ -45,21 +45,21 @@ pub enum Message<'a> {
         /// The transaction's id.
         id: u16,
         /// The name that is queried.
-        name: Name,
+        name: LentName<'a>,
     },
     /// NODE STATUS REQUEST (RFC 1002 section 4.2.17).
     StatusRequest {
         /// The transaction's id.
         id: u16,
         /// A name of the queried node, or `*` for all.
-        name: Name,
+        name: LentName<'a>,
     },
     /// POSITIVE and NEGATIVE NAME REGISTRATION RESPONSE (RFC 1002 sections 4.2.5 and 4.2.6).
     Registered {
         /// RCODE: 0 if the name is registered, 1 to 15 why it is not.
         rcode: u8,
         /// The registration that is replied to: its id, name, kind and address, and the TTL that is granted.
-        registration: Registration,
+        registration: Registration<'a>,
     },
     /// POSITIVE and NEGATIVE NAME RELEASE RESPONSE (RFC 1002 sections 4.2.10 and 4.2.11).
     Released {
@@ -68,7 +68,7 @@ pub enum Message<'a> {
         /// RCODE: 0 if the name is released, 1 to 15 why it is not.
         rcode: u8,
         /// The name that was released.
-        name: Name,
+        name: LentName<'a>,
         /// Unique, or a group's.
         kind: Kind,
         /// NB_ADDRESS, the node's 32-bit address.
@@ -79,7 +79,7 @@ pub enum Message<'a> {
         /// The transaction's id.
         id: u16,
         /// The name that was queried.
-        name: Name,
+        name: LentName<'a>,
         /// How long the entries may be kept, in seconds.
         ttl: u32,
         /// The name's entries of six octets each, NB_FLAGS and NB_ADDRESS, borrowed from the packet's octets.
@@ -94,14 +94,14 @@ pub enum Message<'a> {
         /// RCODE, 1 to 15: why there are no entries.
         rcode: u8,
         /// The name that was queried, if the response has its record.
-        name: Option<Name>,
+        name: Option<LentName<'a>>,
     },
     /// NODE STATUS RESPONSE (RFC 1002 section 4.2.18).
     Status {
         /// The transaction's id.
         id: u16,
         /// The name that was queried.
-        name: Name,
+        name: LentName<'a>,
         /// The node's names of 18 octets each, the sixteen octets and NAME_FLAGS, borrowed from the packet's octets.
         names: &'a [u8],
     },
@@ -110,7 +110,7 @@ pub enum Message<'a> {
         /// The transaction's id.
         id: u16,
         /// The name of the request that waits.
-        name: Name,
+        name: LentName<'a>,
         /// For how many seconds the node is to wait.
         ttl: u32,
     },

@@ -18,13 +18,13 @@
 //!
 //! RFC 1002 sections 4.2.1 to 4.2.1.3.
 
-use nbt_name::Name;
+use nbt_name::LentName;
 
 /// A question (RFC 1002 section 4.2.1.2).
 #[derive(Debug, Drop)]
-pub struct Question {
-    /// The name that is queried.
-    pub name: Name,
+pub struct Question<'a> {
+    /// The name that is queried, lent by the packet's octets.
+    pub name: LentName<'a>,
     /// QUESTION_TYPE: 0x0020 is NB, 0x0021 NBSTAT.
     pub rtype: u16,
     /// QUESTION_CLASS: 0x0001 is IN.
@@ -34,8 +34,8 @@ pub struct Question {
 /// A resource record (RFC 1002 section 4.2.1.3).
 #[derive(Debug, Drop)]
 pub struct Record<'a> {
-    /// The name that the record is about.
-    pub name: Name,
+    /// The name that the record is about, lent by the packet's octets.
+    pub name: LentName<'a>,
     /// RR_TYPE: 0x0020 is NB, 0x0021 NBSTAT, 0x000A NULL.
     pub rtype: u16,
     /// RR_CLASS: 0x0001 is IN.
@@ -54,7 +54,7 @@ pub struct Packet<'a> {
     /// The header's second word: R and OPCODE, the flags and RCODE.
     pub flags: u16,
     /// The question, if QDCOUNT is 1.
-    pub question: Option<Question>,
+    pub question: Option<Question<'a>>,
     /// The answer, if ANCOUNT is 1.
     pub answer: Option<Record<'a>>,
     /// The additional record, if ARCOUNT is 1.

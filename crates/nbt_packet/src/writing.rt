@@ -18,7 +18,7 @@ use crate::wire::{
 };
 use arrayvec::ArrayVec;
 use byteorder::{BigEndian, ByteOrder};
-use nbt_name::{Kind, Name, put_long, put_word};
+use nbt_name::{Kind, LentName, Name, put_long, put_word};
 
 /// NAME REGISTRATION REQUEST: OPCODE 5, RD (RFC 1002 section 4.2.2).
 const REGISTRATION: u16 = 0x2900;
@@ -126,7 +126,13 @@ pub fn write(message: &Message<'_>, out: &mut ArrayVec<u8, 576>)
 }
 
 /// A request that is its question alone (RFC 1002 sections 4.2.12 and 4.2.17).
-fn put_question_packet(out: &mut ArrayVec<u8, 576>, id: u16, flags: u16, name: &Name, rtype: u16)
+fn put_question_packet(
+    out: &mut ArrayVec<u8, 576>,
+    id: u16,
+    flags: u16,
+    name: &LentName<'_>,
+    rtype: u16,
+)
     requires { out.old.items ≡ [] }
     ensures form { out.new.items ≡ question_octets id flags rtype name.now }
     ensures fits { length (question_octets id flags rtype name.now) ≤ 576 }
@@ -138,7 +144,7 @@ fn put_question_packet(out: &mut ArrayVec<u8, 576>, id: u16, flags: u16, name: &
 
 /// A request with a question, and an additional record whose name is a pointer to the question's (RFC 1002 sections
 /// 4.2.2 to 4.2.4 and 4.2.9).
-fn put_claim_packet(out: &mut ArrayVec<u8, 576>, flags: u16, r: &Registration)
+fn put_claim_packet(out: &mut ArrayVec<u8, 576>, flags: u16, r: &Registration<'_>)
     requires { out.old.items ≡ [] }
     ensures form { out.new.items ≡ claim_octets flags r.now }
     ensures fits { length (claim_octets flags r.now) ≤ 576 }
@@ -153,7 +159,7 @@ fn put_claim_packet(out: &mut ArrayVec<u8, 576>, flags: u16, r: &Registration)
 }
 
 /// A release's claim, whose TTL is 0 (RFC 1002 section 4.2.9).
-fn put_release(out: &mut ArrayVec<u8, 576>, id: u16, name: &Name, kind: Kind, addr: u32)
+fn put_release(out: &mut ArrayVec<u8, 576>, id: u16, name: &LentName<'_>, kind: Kind, addr: u32)
     requires { out.old.items ≡ [] }
     ensures form { out.new.items
         ≡ claim_octets 0x3000 (record { id = id; name = name.now; kind = kind; addr = addr; ttl = 0 }) }
@@ -175,7 +181,7 @@ fn put_entry_packet(
     out: &mut ArrayVec<u8, 576>,
     id: u16,
     flags: u16,
-    name: &Name,
+    name: &LentName<'_>,
     ttl: u32,
     kind: Kind,
     addr: u32,
@@ -201,7 +207,7 @@ fn put_not_found(
     out: &mut ArrayVec<u8, 576>,
     id: u16,
     rcode: u8,
-    name: &Option<Name>,
+    name: &Option<LentName<'_>>,
 ) -> Result<(), Full>
     requires empty { out.old.items ≡ [] }
     requires rcode { rcode ≤ 15 }
@@ -222,7 +228,12 @@ fn put_not_found(
 
 /// A node status response: the count of its names, the names, and statistics that are all zero (RFC 1002 section
 /// 4.2.18).
-fn put_status(out: &mut ArrayVec<u8, 576>, id: u16, name: &Name, names: &[u8]) -> Result<(), Full>
+fn put_status(
+    out: &mut ArrayVec<u8, 576>,
+    id: u16,
+    name: &LentName<'_>,
+    names: &[u8],
+) -> Result<(), Full>
     requires empty { out.old.items ≡ [] }
     requires names_octets { length names.now ≤ 18 * 255 }
     ensures ok { OnOk result (out.new.items ≡ text (status id name.now names.now)) }
@@ -248,7 +259,7 @@ fn put_answer_packet(
     out: &mut ArrayVec<u8, 576>,
     id: u16,
     flags: u16,
-    name: &Name,
+    name: &LentName<'_>,
     rtype: u16,
     ttl: u32,
     rdata: &[u8],
@@ -275,7 +286,7 @@ fn put_answer_head(
     out: &mut ArrayVec<u8, 576>,
     id: u16,
     flags: u16,
-    name: &Name,
+    name: &LentName<'_>,
     rtype: u16,
     ttl: u32,
     rdlength: u16,
@@ -311,7 +322,7 @@ fn put_header(
 }
 
 /// A name, a type and the class IN (RFC 1002 section 4.2.1.2).
-fn put_question(out: &mut ArrayVec<u8, 576>, asked: &Name, rtype: u16)
+fn put_question(out: &mut ArrayVec<u8, 576>, asked: &LentName<'_>, rtype: u16)
     requires { length out.old.items ≤ 12 }
     ensures form { out.new.items ≡ out.old.items ++ (wire asked.now ++ word rtype ++ word internet) }
     ensures fits { length (wire asked.now) ≤ 255 }

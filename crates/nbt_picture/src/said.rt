@@ -1,6 +1,6 @@
 //! What a datagram says, in the field's words.
 
-use nbt_name::{Kind, Name};
+use nbt_name::{Kind, LentName, Name};
 use nbt_packet::{Message, Registration, read};
 use nbt_show::{kind_word, rcode_words};
 use nbt_text::write_name;
@@ -11,15 +11,20 @@ use std::alloc::AllocError;
 pub fn claimed_in(octets: &[u8]) -> Option<(Name, u32)> {
     match read(octets)? {
         Message::Registration(asked) | Message::Overwrite(asked) | Message::Refresh(asked) => {
-            Some((asked.name, asked.addr))
+            Some((asked.name.to_name(), asked.addr))
         }
-        Message::Registered { registration, .. } => Some((registration.name, registration.addr)),
+        Message::Registered { registration, .. } => {
+            Some((registration.name.to_name(), registration.addr))
+        }
         Message::Release { name, addr, .. } | Message::Released { name, addr, .. } => {
-            Some((name, addr))
+            Some((name.to_name(), addr))
         }
-        Message::Query { name, .. } | Message::StatusRequest { name, .. } => Some((name, 0)),
-        Message::Found { name, .. } | Message::Status { name, .. } => Some((name, 0)),
-        Message::Wait { name, .. } => Some((name, 0)),
+        Message::Query { name, .. } | Message::StatusRequest { name, .. } => Some((
+            name.to_name(),
+            0,
+        )),
+        Message::Found { name, .. } | Message::Status { name, .. } => Some((name.to_name(), 0)),
+        Message::Wait { name, .. } => Some((name.to_name(), 0)),
         Message::NotFound { .. } => None,
     }
 }
@@ -47,18 +52,18 @@ fn write_message(message: &Message<'_>, out: &mut String) -> Result<(), AllocErr
         Message::Registration(asked) => write_registration("registration ", asked, out),
         Message::Overwrite(asked) => write_registration("overwrite ", asked, out),
         Message::Refresh(asked) => write_registration("refresh ", asked, out),
-        Message::Release { name, .. } => write_named("release ", name, out),
-        Message::Query { name, .. } => write_named("query ", name, out),
-        Message::StatusRequest { name, .. } => write_named("status request ", name, out),
+        Message::Release { name, .. } => write_about("release ", name, out),
+        Message::Query { name, .. } => write_about("query ", name, out),
+        Message::StatusRequest { name, .. } => write_about("status request ", name, out),
         Message::Registered {
             rcode: 0,
             registration,
         } => write_registration("positive ", registration, out),
         Message::Registered { rcode, .. } => write_refusal("refused: ", *rcode, out),
-        Message::Released { rcode: 0, name, .. } => write_named("released ", name, out),
+        Message::Released { rcode: 0, name, .. } => write_about("released ", name, out),
         Message::Released { rcode, .. } => write_refusal("release refused: ", *rcode, out),
         Message::Found { name, entries, .. } => {
-            write_named("found ", name, out)?;
+            write_about("found ", name, out)?;
             let count = entries.len() / ENTRY;
             write!(out, ", entries: {count}")
         }
@@ -74,15 +79,20 @@ fn write_message(message: &Message<'_>, out: &mut String) -> Result<(), AllocErr
 /// Appends what is said, of which name, its kind where it is a group's, and for how long.
 fn write_registration(
     what: &str,
-    asked: &Registration,
+    asked: &Registration<'_>,
     out: &mut String,
 ) -> Result<(), AllocError> {
-    write_named(what, &asked.name, out)?;
+    write_about(what, &asked.name, out)?;
     if asked.kind == Kind::Group {
         out.push_str(" group")?;
     }
     let seconds = asked.ttl;
     write!(out, " {seconds} s")
+}
+
+/// Appends what is said, and of which name.
+fn write_about(what: &str, name: &LentName<'_>, out: &mut String) -> Result<(), AllocError> {
+    write_named(what, &name.to_name(), out)
 }
 
 /// Appends what is said or done, and of which name.

@@ -61,7 +61,7 @@ fn take(message: &Option<Message<'_>>, release: &mut Release)
         },
     ) = message
     {
-        if *id == release.id && release.rcode.is_none() && *name == release.name {
+        if *id == release.id && release.rcode.is_none() && name.is(&release.name) {
             release.rcode = Some(*rcode);
         }
     }

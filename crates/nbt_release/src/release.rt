@@ -45,12 +45,12 @@ impl Release {
     }
 
     /// Its request, from a node at this address (RFC 1002 section 4.2.9).
-    pub(crate) fn request(&self, own: u32) -> Message<'static>
+    pub(crate) fn request(&self, own: u32) -> Message<'_>
         ensures { message_of result ≡ request own self.now }
     {
         Message::Release {
             id: self.id,
-            name: self.name.copy(),
+            name: self.name.lend(),
             kind: self.kind,
             addr: own,
         }

@@ -12,5 +12,6 @@ pub fn write_request(id: u16, out: &mut ArrayVec<u8, 576>)
     ensures { out.new.items ≡ request_text id }
 {
     let name = Name::any(&[]).unwrap();
+    let name = name.lend();
     write(&Message::StatusRequest { id, name }, out);
 }

@@ -16,8 +16,9 @@ ghost use Rattle.nbt_packet.specs.Spelling.{Spells};
 ghost use Rattle.nbt_serve.specs.Samba.{multi_homed, registration_octet, as_registration, IsTaken};
 ghost use Rattle.nbt_serve.specs.Inner.SambaRequests.{Asks, Meets};
 
-use nbt_name::{Kind, read_word};
+use nbt_name::{Kind, Name, read_word};
 use nbt_packet::{Message, Registration, read};
+use std::marker::Model;
 
 /// Where the word of R, OPCODE, NM_FLAGS and RCODE stands (RFC 1002 section 4.2.1.1).
 const FLAGS: usize = 2;
@@ -34,13 +35,56 @@ const OPCODE_REGISTRATION: u16 = 5;
 /// The flags' first octet of a registration: OPCODE 5 and RD (RFC 1002 section 4.2.2).
 const REGISTRATION_FLAGS: u8 = 0x29;
 
+/// A claim with a name of its own, since the octets change before it is compared with what they spell then.
+#[derive(Debug, Drop)]
+struct OwnClaim {
+    id: u16,
+    name: Name,
+    kind: Kind,
+    addr: u32,
+    ttl: u32,
+}
+
+impl Model for OwnClaim {
+    ghost use Rattle.nbt_packet.specs.declared.message.Registration.{Registration as Claim};
+
+    ghost Value = { Claim };
+
+    ghost view = { λ c. record { id = c.id; name = c.name; kind = c.kind; addr = c.addr; ttl = c.ttl } };
+}
+
+impl OwnClaim {
+    fn of(claim: &Registration<'_>) -> OwnClaim
+        ensures { result ≡ claim.now }
+    {
+        OwnClaim {
+            id: claim.id,
+            name: claim.name.to_name(),
+            kind: claim.kind,
+            addr: claim.addr,
+            ttl: claim.ttl,
+        }
+    }
+
+    /// Whether it is the same as another one.
+    fn is_same(&self, claim: &Registration<'_>) -> bool
+        ensures { IsTrue result ↔ (self.now ≡ claim.now) }
+    {
+        self.id == claim.id
+            && claim.name.is(&self.name)
+            && self.kind == claim.kind
+            && self.addr == claim.addr
+            && self.ttl == claim.ttl
+    }
+}
+
 /// What a request asks for, which is to be taken for a registration.
 #[derive(Debug, Drop)]
 enum Asked {
     /// OPCODE 15: what it is as a registration.
     MultiHomed,
     /// An overwrite of this group.
-    Overwrite(Registration),
+    Overwrite(OwnClaim),
 }
 
 /// Makes a registration of octets that are to be taken for one, by the third of them alone: R is clear then, OPCODE is 5
@@ -87,12 +131,12 @@ fn asked_in(octets: &[u8]) -> Option<Asked>
 }
 
 /// The overwrite of a group that the octets spell, if they spell one.
-fn group_overwrite_in(octets: &[u8]) -> Option<Registration>
+fn group_overwrite_in(octets: &[u8]) -> Option<OwnClaim>
     ensures { (r : Claim) → (result ≡ Some r) ↔ (Spells octets.now (overwrite r) × (r.kind ≡ Group)) }
 {
     match read(octets)? {
         Message::Overwrite(claim) => match claim.kind {
-            Kind::Group => Some(claim),
+            Kind::Group => Some(OwnClaim::of(&claim)),
             Kind::Unique => None,
         },
         _ => None,
@@ -100,7 +144,7 @@ fn group_overwrite_in(octets: &[u8]) -> Option<Registration>
 }
 
 /// The registration that the octets spell, if they spell one.
-fn registration_in(octets: &[u8]) -> Option<Registration>
+fn registration_in(octets: &[u8]) -> Option<Registration<'_>>
     ensures { (r : Claim) → (result ≡ Some r) ↔ Spells octets.now (registration r) }
 {
     match read(octets)? {
@@ -139,13 +183,6 @@ fn is_met(octets: &[u8], asked: &Asked) -> bool
     };
     match asked {
         Asked::MultiHomed => true,
-        Asked::Overwrite(group) => is_same(group, &claim),
+        Asked::Overwrite(group) => group.is_same(&claim),
     }
-}
-
-/// Whether two claims are the same.
-fn is_same(a: &Registration, b: &Registration) -> bool
-    ensures { IsTrue result ↔ (a.now ≡ b.now) }
-{
-    a.id == b.id && a.name == b.name && a.kind == b.kind && a.addr == b.addr && a.ttl == b.ttl
 }

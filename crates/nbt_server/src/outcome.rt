@@ -26,11 +26,11 @@ pub struct Claim {
 
 impl Claim {
     /// The claim of a registration, a refresh or an overwrite.
-    pub(crate) fn from_registration(asked: &Registration) -> Claim
+    pub(crate) fn from_registration(asked: &Registration<'_>) -> Claim
         ensures { result ≡ claim_in asked.now }
     {
         Claim {
-            name: asked.name.copy(),
+            name: asked.name.to_name(),
             kind: asked.kind,
             addr: asked.addr,
         }

@@ -14,7 +14,7 @@ ghost use Rattle.nbt_server.specs.Serving.{AsksFor, IsOwn, seconds_until, entrie
 use crate::outcome::{Claim, Outcome, Refusal};
 use arrayvec::ArrayVec;
 use nbt_lease::{Grant, GrantFault, Moment, Released, Table};
-use nbt_name::Name;
+use nbt_name::{LentName, Name};
 use nbt_packet::{Message, Registration, entries_most, entry_octets, write};
 use std::alloc::AllocError;
 
@@ -54,8 +54,11 @@ pub(crate) fn serve(
             name,
             kind,
             addr,
-        } => Ok(release(table, now, ip, id, Claim { name, kind, addr }, out)),
-        Message::Query { id, name } => Ok(find(table, now, id, name, out)),
+        } => {
+            let name = name.to_name();
+            Ok(release(table, now, ip, id, Claim { name, kind, addr }, out))
+        }
+        Message::Query { id, name } => Ok(find(table, now, id, name.to_name(), out)),
         _ => Ok(Outcome::ForNodes),
     }
 }
@@ -65,17 +68,17 @@ pub(crate) fn unanswered(message: Message<'_>) -> Outcome
     ensures { (octets : List ℕ) → Spells octets (message_of message.entry) → IsUnanswered octets result }
 {
     match message {
-        Message::Registration(asked) => Outcome::Silent(asked.name),
-        Message::Overwrite(asked) => Outcome::Silent(asked.name),
-        Message::Refresh(asked) => Outcome::Silent(asked.name),
-        Message::Release { name, .. } => Outcome::Silent(name),
-        Message::Query { name, .. } => Outcome::Silent(name),
+        Message::Registration(asked) => Outcome::Silent(asked.name.to_name()),
+        Message::Overwrite(asked) => Outcome::Silent(asked.name.to_name()),
+        Message::Refresh(asked) => Outcome::Silent(asked.name.to_name()),
+        Message::Release { name, .. } => Outcome::Silent(name.to_name()),
+        Message::Query { name, .. } => Outcome::Silent(name.to_name()),
         _ => Outcome::ForNodes,
     }
 }
 
 /// Why a request isn't the sender's own; none if it is (our profile).
-fn refusal_of(ip: u32, name: &Name, addr: u32) -> Option<Refusal>
+fn refusal_of(ip: u32, name: &LentName<'_>, addr: u32) -> Option<Refusal>
     ensures own { IfNone result (IsOwn ip name.now addr) }
     ensures other { IfSome result (λ refusal. (¬ IsOwn ip name.now addr) × (refusal ≡ not_own ip addr)) }
 {
@@ -94,13 +97,13 @@ fn lease(
     client_rows: Option<u32>,
     now: Moment,
     ip: u32,
-    asked: Registration,
+    asked: Registration<'_>,
     out: &mut ArrayVec<u8, 576>,
 ) -> Result<Outcome, AllocError>
     requires { table.old.last ≤ now }
-    ensures does { IfOk result (λ outcome. (m : MessageValue) → AsksFor m asked → DoesWithin client_rows table.old now ip m outcome out.new.items (leases_at now table.new.rows)) }
-    ensures memory { OnErr result ((m : MessageValue) → AsksFor m asked → NeedsMemory table.old now ip m) }
-    ensures room { OnErr result ((m : MessageValue) → AsksFor m asked → ¬ IsOverLimit client_rows table.old now ip m) }
+    ensures does { IfOk result (λ outcome. (m : MessageValue) → AsksFor m asked.entry → DoesWithin client_rows table.old now ip m outcome out.new.items (leases_at now table.new.rows)) }
+    ensures memory { OnErr result ((m : MessageValue) → AsksFor m asked.entry → NeedsMemory table.old now ip m) }
+    ensures room { OnErr result ((m : MessageValue) → AsksFor m asked.entry → ¬ IsOverLimit client_rows table.old now ip m) }
     ensures refused { OnErr result ((leases_at now table.new.rows ≡ leases_at now table.old.rows) × (out.new.items ≡ out.old.items)) }
     ensures config { table.new.config ≡ table.old.config }
     ensures last { table.new.last ≤ now }
@@ -108,14 +111,15 @@ fn lease(
     if let Some(refusal) = refusal_of(ip, &asked.name, asked.addr) {
         return Ok(refuse(asked, refusal, out));
     }
-    if is_full(client_rows, table, now, ip, &asked.name) {
+    let name = asked.name.to_name();
+    if is_full(client_rows, table, now, ip, &name) {
         return Ok(refuse(asked, Refusal::ClientFull, out));
     }
-    let fault = match table.grant(now, &asked.name, asked.addr, asked.kind, asked.ttl) {
+    let fault = match table.grant(now, &name, asked.addr, asked.kind, asked.ttl) {
         Ok(grant) => return Ok(accept(asked, grant, out)),
         Err(fault) => fault,
     };
-    let Some(refusal) = refusal_by(fault, table, now, &asked.name) else {
+    let Some(refusal) = refusal_by(fault, table, now, &name) else {
         return Err(AllocError);
     };
     Ok(refuse(asked, refusal, out))
@@ -172,9 +176,9 @@ fn holder(table: &Table, now: Moment, name: &Name) -> u32
 }
 
 /// Leaves in `out` the positive response to a registration or a refresh (RFC 1002 section 4.2.5).
-fn accept(asked: Registration, grant: Grant, out: &mut ArrayVec<u8, 576>) -> Outcome
-    ensures outcome { result ≡ grant_outcome (claim_in asked) grant }
-    ensures written { AreWritten (Some (registered 0 (record asked { ttl = grant.seconds }))) out.new.items }
+fn accept(asked: Registration<'_>, grant: Grant, out: &mut ArrayVec<u8, 576>) -> Outcome
+    ensures outcome { result ≡ grant_outcome (claim_in asked.entry) grant }
+    ensures written { AreWritten (Some (registered 0 (record asked.entry { ttl = grant.seconds }))) out.new.items }
 {
     let claim = respond(asked, 0, grant.seconds, out);
     if grant.renewed {
@@ -186,18 +190,18 @@ fn accept(asked: Registration, grant: Grant, out: &mut ArrayVec<u8, 576>) -> Out
 
 /// Leaves in `out` the negative response to a registration, a refresh or an overwrite, with a TTL of 0 (RFC 1002 section
 /// 4.2.6).
-fn refuse(asked: Registration, refusal: Refusal, out: &mut ArrayVec<u8, 576>) -> Outcome
-    ensures outcome { result ≡ Outcome.Refused (claim_in asked) refusal }
-    ensures written { AreWritten (Some (registered (rcode_of refusal) (record asked { ttl = 0 }))) out.new.items }
+fn refuse(asked: Registration<'_>, refusal: Refusal, out: &mut ArrayVec<u8, 576>) -> Outcome
+    ensures outcome { result ≡ Outcome.Refused (claim_in asked.entry) refusal }
+    ensures written { AreWritten (Some (registered (rcode_of refusal) (record asked.entry { ttl = 0 }))) out.new.items }
 {
     Outcome::Refused(respond(asked, refusal.rcode(), 0, out), refusal)
 }
 
 /// Leaves in `out` a response to a registration, a refresh or an overwrite, and returns its claim.
-fn respond(asked: Registration, rcode: u8, ttl: u32, out: &mut ArrayVec<u8, 576>) -> Claim
+fn respond(asked: Registration<'_>, rcode: u8, ttl: u32, out: &mut ArrayVec<u8, 576>) -> Claim
     requires { rcode ≤ 15 }
-    ensures claim { result ≡ claim_in asked }
-    ensures written { AreWritten (Some (registered rcode (record asked { ttl = ttl }))) out.new.items }
+    ensures claim { result ≡ claim_in asked.entry }
+    ensures written { AreWritten (Some (registered rcode (record asked.entry { ttl = ttl }))) out.new.items }
 {
     let claim = Claim::from_registration(&asked);
     let registration = Registration { ttl, ..asked };
@@ -225,7 +229,7 @@ fn release(
     ensures config { table.new.config ≡ table.old.config }
     ensures last { table.new.last ≤ now }
 {
-    if let Some(refusal) = refusal_of(ip, &claim.name, claim.addr) {
+    if let Some(refusal) = refusal_of(ip, &claim.name.lend(), claim.addr) {
         return refuse_release(id, claim, refusal, out);
     }
     match table.release(now, &claim.name, claim.addr) {
@@ -261,7 +265,7 @@ fn respond_release(id: u16, rcode: u8, claim: &Claim, out: &mut ArrayVec<u8, 576
     let reply = Message::Released {
         id,
         rcode,
-        name: claim.name.copy(),
+        name: claim.name.lend(),
         kind: claim.kind,
         addr: claim.addr,
     };
@@ -284,14 +288,14 @@ fn find(table: &mut Table, now: Moment, id: u16, name: Name, out: &mut ArrayVec<
         let missing = Message::NotFound {
             id,
             rcode: NAME_ERROR,
-            name: Some(name.copy()),
+            name: Some(name.lend()),
         };
         write(&missing, out);
         return Outcome::NotFound(name);
     };
     let found = Message::Found {
         id,
-        name: name.copy(),
+        name: name.lend(),
         ttl: seconds_left(now, end),
         entries: listed.entries.as_slice(),
         cut: listed.cut,

@@ -58,7 +58,7 @@ fn write_header(id: u16, flags: u16, out: &mut String) -> Result<(), AllocError>
 }
 
 /// Appends the line of the question, where there is one.
-fn write_question(question: &Option<Question>, out: &mut String) -> Result<(), AllocError>
+fn write_question(question: &Option<Question<'_>>, out: &mut String) -> Result<(), AllocError>
     ensures { OnOk result ((text : List ℕ) × (string_bytes out.new ≡ string_bytes out.old ++ text)
         × PrintsQuestion question.now text) }
 {
@@ -66,7 +66,7 @@ fn write_question(question: &Option<Question>, out: &mut String) -> Result<(), A
         return Ok(());
     };
     out.push_str("question ")?;
-    write_name(&question.name, out)?;
+    write_name(&question.name.to_name(), out)?;
     write_type_and_class(question.rtype, question.class, out)?;
     end_line(out)
 }
@@ -85,7 +85,7 @@ fn write_record(
     };
     out.push_str(label)?;
     out.push_str(" ")?;
-    write_name(&record.name, out)?;
+    write_name(&record.name.to_name(), out)?;
     write_type_and_class(record.rtype, record.class, out)?;
     let ttl = record.ttl;
     write!(out, " ttl {ttl} data ")?;

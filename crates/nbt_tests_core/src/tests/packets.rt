@@ -76,29 +76,35 @@ enum Says<'a> {
     Wait(u32),
 }
 
-fn registration(id: u16, name: Name, kind: Kind) -> Registration {
+fn registration(id: u16, name: &Name, kind: Kind) -> Registration<'_> {
     Registration {
         id,
-        name,
+        name: name.lend(),
         kind,
         addr: 0x7F000002,
         ttl: 60,
     }
 }
 
-fn message(id: u16, name: Name, says: Says<'_>) -> Message<'_> {
+fn message<'a>(id: u16, name: &'a Name, says: Says<'a>) -> Message<'a> {
     match says {
         Says::Registration(kind) => Message::Registration(registration(id, name, kind)),
         Says::Overwrite(kind) => Message::Overwrite(registration(id, name, kind)),
         Says::Refresh(kind) => Message::Refresh(registration(id, name, kind)),
         Says::Release(kind) => Message::Release {
             id,
-            name,
+            name: name.lend(),
             kind,
             addr: 0x7F000002,
         },
-        Says::Query => Message::Query { id, name },
-        Says::StatusRequest => Message::StatusRequest { id, name },
+        Says::Query => Message::Query {
+            id,
+            name: name.lend(),
+        },
+        Says::StatusRequest => Message::StatusRequest {
+            id,
+            name: name.lend(),
+        },
         Says::Registered(rcode, kind) => Message::Registered {
             rcode,
             registration: registration(id, name, kind),
@@ -106,13 +112,13 @@ fn message(id: u16, name: Name, says: Says<'_>) -> Message<'_> {
         Says::Released(rcode, kind) => Message::Released {
             id,
             rcode,
-            name,
+            name: name.lend(),
             kind,
             addr: 0x7F000002,
         },
         Says::Found(ttl, entries, cut) => Message::Found {
             id,
-            name,
+            name: name.lend(),
             ttl,
             entries,
             cut,
@@ -120,15 +126,23 @@ fn message(id: u16, name: Name, says: Says<'_>) -> Message<'_> {
         Says::NotFound(rcode) => Message::NotFound {
             id,
             rcode,
-            name: Some(name),
+            name: Some(name.lend()),
         },
         Says::NotFoundBare(rcode) => Message::NotFound {
             id,
             rcode,
             name: None,
         },
-        Says::Status(names) => Message::Status { id, name, names },
-        Says::Wait(ttl) => Message::Wait { id, name, ttl },
+        Says::Status(names) => Message::Status {
+            id,
+            name: name.lend(),
+            names,
+        },
+        Says::Wait(ttl) => Message::Wait {
+            id,
+            name: name.lend(),
+            ttl,
+        },
     }
 }
 
@@ -220,7 +234,8 @@ fn messages_are_written_and_read(rt: HostRuntime) {
     written_form_is_read();
     for (id, name, says, octets, patches) in WRITTEN {
         let octets = patched(&rt, octets, patches);
-        let message = message(*id, name_of(&rt, name), *says);
+        let name = name_of(&rt, name);
+        let message = message(*id, &name, *says);
         written_and_read(&rt, &message, &octets);
     }
 }
@@ -234,7 +249,7 @@ fn registration_of_fred(rt: HostRuntime) {
         panic!(&rt; "no registration");
     };
     expect_eq(&rt, &read.id, &1);
-    expect(&rt, read.name == fred);
+    expect(&rt, read.name.is(&fred));
     expect_eq(&rt, &read.kind, &Kind::Unique);
     expect_eq(&rt, &read.addr, &0x7F000002);
     expect_eq(&rt, &read.ttl, &60);
@@ -507,12 +522,13 @@ fn a_written_form_of_576_octets_and_one_longer(rt: HostRuntime) {
     written_length();
     few_rows_are_written();
     let entries = [0x20; 522];
+    let name = fred(&rt, b"\x03abc");
     for (count, length) in &[(86usize, 576usize), (87, 0)] {
         let end = count.saturating_mul(6);
         expect(&rt, end <= entries.len());
         let found = Message::Found {
             id: 1,
-            name: fred(&rt, b"\x03abc"),
+            name: name.lend(),
             ttl: 60,
             entries: &entries[..end],
             cut: false,

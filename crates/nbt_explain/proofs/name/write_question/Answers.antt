@@ -16,7 +16,7 @@ returns c =
     let q = c.in-Some.question in
     OnOk-map c.end_line.result c.end_line.ensures (λ e. (
       codes "Question: " ++ name.0 ++ type_and_class q.rtype q.class ++ newline,
-      rw c.in-Some.is (one_question q name.0 name.1),
+      rw c.in-Some.is (one_question q name.0 (rw c.to_name.ensures at name.1)),
       four_parts (string_bytes c.args.out.now) (codes "Question: ") name.0 (type_and_class q.rtype q.class) newline (string_bytes c.push_str.new.self) (string_bytes c.write_named.new.out)
           (string_bytes c.write_type_and_class.new.out) (string_bytes c.end_line.new.out) c.in_ok-push_str.ensures.bytes name.2 c.in_ok-write_type_and_class.ensures e,
     ))

@@ -16,7 +16,7 @@ returns c =
     let label = c.args.label.now in
     OnOk-map c.write_rdata.result c.write_rdata.ensures (λ rows. (
       label ++ name.0 ++ record_fields r ++ rows.0,
-      rw c.in-Some.is (one_record r name.0 rows.0 name.1 rows.1),
+      rw c.in-Some.is (one_record r name.0 rows.0 (rw c.to_name.ensures at name.1) rows.1),
       four_parts (string_bytes c.args.out.now) label name.0 (record_fields r) rows.0 (string_bytes c.push_str.new.self) (string_bytes c.write_named.new.out)
           (string_bytes c.write_fields.new.out) (string_bytes c.write_rdata.new.out) c.in_ok-push_str.ensures.bytes name.2 c.in_ok-write_fields.ensures rows.2,
     ))

@@ -7,7 +7,7 @@ pub returns-in_default-clause-does : goal.returns-in_default-clause-does
 returns-in_default-clause-does c =
     let after = leases_at c.args.now c.sweep.new.self.rows in
     λ ip. does_find_none c.args.table.now c.args.now ip c.args.id c.args.name after c.sweep.ensures.leases _ c.write.new.out.items (subst (IsLeastEnd (after c.args.name)) c.in_default.is c.list-listed.ensures.end) refl
-    (rw c.copy.ensures at c.write.ensures)
+    (rw c.lend.ensures at c.write.ensures)
 
 pub seconds_left-requires : goal.seconds_left-requires
 seconds_left-requires c =
@@ -25,10 +25,10 @@ write-requires-2-clause-fits c =
 
 pub write-requires-2-clause-row_count : goal.write-requires-2-clause-row_count
 write-requires-2-clause-row_count c =
-    rw (c.copy-2.ensures, c.as_slice.ensures.value, c.list-listed.ensures.entries) (entries_short (entries_most c.args.name) (leases_at c.args.now c.sweep.new.self.rows c.args.name))
+    rw (c.lend-2.ensures, c.as_slice.ensures.value, c.list-listed.ensures.entries) (entries_short (entries_most c.args.name) (leases_at c.args.now c.sweep.new.self.rows c.args.name))
 
 pub returns-clause-does : goal.returns-clause-does
 returns-clause-does c =
     let after = leases_at c.args.now c.sweep.new.self.rows in
     λ ip. does_find c.args.table.now c.args.now ip c.args.id c.args.name after c.sweep.ensures.leases _ c.write-2.new.out.items c.in-Some.end (subst (IsLeastEnd (after c.args.name)) c.in-Some.is c.list-listed.ensures.end) refl
-    (rw (c.copy-2.ensures, c.seconds_left.ensures, c.as_slice.ensures.value, c.list-listed.ensures.entries, c.list-listed.ensures.cut) at c.write-2.ensures)
+    (rw (c.lend-2.ensures, c.seconds_left.ensures, c.as_slice.ensures.value, c.list-listed.ensures.entries, c.list-listed.ensures.cut) at c.write-2.ensures)

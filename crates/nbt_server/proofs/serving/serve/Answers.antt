@@ -19,10 +19,10 @@ pub returns-in-Overwrite-clause-does : goal.returns-in-Overwrite-clause-does
 returns-in-Overwrite-clause-does c = rw c.in-Overwrite.is (by_rule (within_limit _ _ _ _ _ refl) (_, refuses_overwrite c.in-Overwrite.asked, c.refuse.ensures.outcome, c.refuse.ensures.written))
 
 pub returns-in-Release-clause-does : goal.returns-in-Release-clause-does
-returns-in-Release-clause-does c = rw c.in-Release.is (by_rule (within_limit _ _ _ _ _ refl) c.release.ensures.does)
+returns-in-Release-clause-does c = rw c.in-Release.is (by_rule (within_limit _ _ _ _ _ refl) (rw c.to_name-name.ensures at c.release.ensures.does))
 
 pub returns-in-Query-clause-does : goal.returns-in-Query-clause-does
-returns-in-Query-clause-does c = rw c.in-Query.is (by_rule (within_limit _ _ _ _ _ refl) (c.find.ensures.does c.args.ip))
+returns-in-Query-clause-does c = rw c.in-Query.is (by_rule (within_limit _ _ _ _ _ refl) (rw c.to_name.ensures at (c.find.ensures.does c.args.ip)))
 
 pub returns-in_default-clause-does : goal.returns-in_default-clause-does
 returns-in_default-clause-does c =

@@ -17,5 +17,5 @@ returns c =
       codes "question " ++ name.0 ++ type_and_class q.rtype q.class ++ newline,
       four_parts (string_bytes c.args.out.now) (codes "question ") name.0 (type_and_class q.rtype q.class) newline (string_bytes c.push_str.new.self) (string_bytes c.write_name.new.out)
           (string_bytes c.write_type_and_class.new.out) (string_bytes c.end_line.new.out) c.in_ok-push_str.ensures.bytes name.1 c.in_ok-write_type_and_class.ensures e,
-      rw c.in-Some.is (one_question q name.0 name.2),
+      rw c.in-Some.is (one_question q name.0 (rw c.to_name.ensures at name.2)),
     ))

@@ -18,5 +18,5 @@ returns c =
     OnOk-map c.end_line.result c.end_line.ensures (λ e. (
       label ++ codes " " ++ name.0 ++ type_and_class r.rtype r.class ++ codes " ttl " ++ decimal r.ttl ++ codes " data " ++ data_text r.rdata.now ++ newline,
       rw (e, c.in_ok-write_data.ensures, c.in_ok-write.ensures.bytes, c.in_ok-write_type_and_class.ensures, name.1, c.in_ok-push_str-2.ensures.bytes, c.in_ok-push_str.ensures.bytes) (simp append_assoc),
-      rw c.in-Some.is (one_record (record_of r) name.0 name.2),
+      rw c.in-Some.is (one_record (record_of r) name.0 (rw c.to_name.ensures at name.2)),
     ))

@@ -17,13 +17,13 @@ returns-then-is_held_by-clause-decided c =
     let seconds_are : c.granted-seconds.result ≡ granted c.args.self.now.longest c.args.claim.ttl = search rules in
     λ m asks. (
       registered 0 (record c.args.claim { ttl = granted c.args.self.now.longest c.args.claim.ttl }),
-      confirms m c.args.claim c.in-Some.fixed.now asks (rw (← c.self.view_is) c.in-Some.ensures.found) (c.is_held_by.ensures.0 c.if-is_held_by.true),
+      confirms m c.args.claim c.in-Some.fixed.now asks (rw (← c.self.view_is) (rw c.to_name-name.ensures at c.in-Some.ensures.found)) (c.is_held_by.ensures.0 c.if-is_held_by.true),
       rw (← seconds_are) c.respond.ensures.written,
     )
 
 pub returns-clause-decided : goal.returns-clause-decided
 returns-clause-decided c = λ m asks. (
   refusal active_error c.args.claim,
-  rw c.respond-name.ensures.name (refuses m c.args.claim c.in-Some.fixed.now asks (rw (← c.self.view_is) c.in-Some.ensures.found) (denied c.is_held_by.result c.is_held_by.ensures.1 c.if-is_held_by.false)),
+  rw c.respond-name.ensures.name (refuses m c.args.claim c.in-Some.fixed.now asks (rw (← c.self.view_is) (rw c.to_name-name.ensures at c.in-Some.ensures.found)) (denied c.is_held_by.result c.is_held_by.ensures.1 c.if-is_held_by.false)),
   c.respond-name.ensures.written,
 )

@@ -21,16 +21,16 @@ pub returns-in-Overwrite-clause-passed : goal.returns-in-Overwrite-clause-passed
 returns-in-Overwrite-clause-passed c = rw c.in-Overwrite.is c.overwrite.ensures.passed
 
 pub returns-in-Release-clause-decided : goal.returns-in-Release-clause-decided
-returns-in-Release-clause-decided c = rw c.in-Release.is c.release.ensures.decided
+returns-in-Release-clause-decided c = rw c.in-Release.is (rw c.to_name.ensures at c.release.ensures.decided)
 
 pub returns-in-Release-clause-passed : goal.returns-in-Release-clause-passed
-returns-in-Release-clause-passed c = rw c.in-Release.is c.release.ensures.passed
+returns-in-Release-clause-passed c = rw c.in-Release.is (rw c.to_name.ensures at c.release.ensures.passed)
 
 pub returns-in-Query-clause-decided : goal.returns-in-Query-clause-decided
-returns-in-Query-clause-decided c = rw c.in-Query.is (c.find.ensures.decided c.args.ip)
+returns-in-Query-clause-decided c = rw c.in-Query.is (rw c.to_name-in-Query.ensures at (c.find.ensures.decided c.args.ip))
 
 pub returns-in-Query-clause-passed : goal.returns-in-Query-clause-passed
-returns-in-Query-clause-passed c = rw c.in-Query.is (c.find.ensures.passed c.args.ip)
+returns-in-Query-clause-passed c = rw c.in-Query.is (rw c.to_name-in-Query.ensures at (c.find.ensures.passed c.args.ip))
 
 pub returns-in_default-clause-passed : goal.returns-in_default-clause-passed
 returns-in_default-clause-passed c = others_pass c.args.self.now c.args.ip _ c.in_default.not-Registration c.in_default.not-Overwrite c.in_default.not-Refresh c.in_default.not-Release c.in_default.not-Query

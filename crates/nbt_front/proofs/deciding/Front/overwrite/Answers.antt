@@ -7,7 +7,7 @@ use Rattle.nbt_front.proofs.deciding.Front.overwrite.Goals as goal
 pub returns-in-Some-clause-decided : goal.returns-in-Some-clause-decided
 returns-in-Some-clause-decided c = (
   refusal active_error c.args.claim,
-  rw c.respond-name.ensures.name (refuses_overwrite c.args.claim c.in-Some.field-0.now (rw (← c.self.view_is) c.in-Some.ensures.found)),
+  rw c.respond-name.ensures.name (refuses_overwrite c.args.claim c.in-Some.field-0.now (rw (← c.self.view_is) (rw c.to_name-name.ensures at c.in-Some.ensures.found))),
   c.respond-name.ensures.written,
 )
 

@@ -19,5 +19,5 @@ pub returns-clause-decided : goal.returns-clause-decided
 returns-clause-decided c = (
   released c.args.id active_error c.args.name c.args.kind c.args.addr,
   refuses_release c.args.id c.args.name c.args.kind c.args.addr c.in_ok-fixed.fixed.now (rw (← c.self.view_is) c.in_ok-fixed.ensures.found) (denied c.is_held_by.result c.is_held_by.ensures.1 c.if-is_held_by.false),
-  rw c.copy.ensures at c.respond_release-2.ensures,
+  c.respond_release-2.ensures,
 )

@@ -2,7 +2,7 @@ use Rattle.std.proofs.Common.{◌+◌, ◌≤◌, length}
 use Rattle.nbt_name.proofs.Common.{spot_of}
 use Rattle.nbt_name.proofs.Ends.{work}
 use Rattle.nbt_name.proofs.Counts.{OnPath, IsCounted}
-use Rattle.nbt_name.proofs.reading.read.Given as goal
+use Rattle.nbt_name.proofs.reading.pass.Given as goal
 
 abbrev pub invariant-steps : goal.invariant-steps
 invariant-steps g l = record {
