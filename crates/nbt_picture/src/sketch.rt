@@ -67,9 +67,8 @@ impl Sketch {
         self.forget_ended();
     }
 
-    /// An endpoint starts at the last row: all that lasted beside it ends there.
+    /// An endpoint starts at the last row. It wasn't up, so nothing lasts beside it.
     pub fn start(&mut self, column: usize, world: &World) -> Result<(), AllocError> {
-        self.stop(column);
         if column == 0 {
             let over = world.reading(0).get().saturating_add(self.silence);
             self.open_span(nameless(0, Sort::Silence, over))?;
