@@ -9,6 +9,7 @@ ghost use Rattle.nbt_c.specs.Events.{event_with, event_for, lent_by, rcode_in, a
 use crate::buffer::Octets;
 use crate::name::CName;
 use nbt_lease::Moment;
+use nbt_name::LentName;
 use nbt_node::{Event, Node, reply_to};
 use nbt_packet::Message;
 
@@ -89,29 +90,40 @@ fn name_in(message: &Option<Message<'_>>) -> CName
     ensures { result ≡ stored_if (about (message_if message.now)) }
 {
     match message {
-        Some(message) => name_of(message),
+        Some(message) => stored_if(about(message)),
         None => CName::none(),
     }
 }
 
-fn name_of(message: &Message<'_>) -> CName
-    ensures { result ≡ stored_if (about (message_if (Some message.now))) }
+/// A name for C, or none.
+fn stored_if(name: Option<LentName<'_>>) -> CName
+    ensures { result ≡ stored_if name.entry }
+{
+    match name {
+        Some(name) => CName::of(&name.to_name()),
+        None => CName::none(),
+    }
+}
+
+/// The name that a message is about, if there is one.
+fn about<'a>(message: &Message<'a>) -> Option<LentName<'a>>
+    ensures { result ≡ about (message_if (Some message.now)) }
 {
     match message {
-        Message::Registration(registration) => CName::of(&registration.name.to_name()),
-        Message::Overwrite(registration) => CName::of(&registration.name.to_name()),
-        Message::Refresh(registration) => CName::of(&registration.name.to_name()),
-        Message::Registered { registration, .. } => CName::of(&registration.name.to_name()),
-        Message::Release { name, .. } => CName::of(&name.to_name()),
-        Message::Query { name, .. } => CName::of(&name.to_name()),
-        Message::StatusRequest { name, .. } => CName::of(&name.to_name()),
-        Message::Released { name, .. } => CName::of(&name.to_name()),
-        Message::Found { name, .. } => CName::of(&name.to_name()),
-        Message::Status { name, .. } => CName::of(&name.to_name()),
-        Message::Wait { name, .. } => CName::of(&name.to_name()),
+        Message::Registration(registration) => Some(registration.name.copy()),
+        Message::Overwrite(registration) => Some(registration.name.copy()),
+        Message::Refresh(registration) => Some(registration.name.copy()),
+        Message::Registered { registration, .. } => Some(registration.name.copy()),
+        Message::Release { name, .. } => Some(name.copy()),
+        Message::Query { name, .. } => Some(name.copy()),
+        Message::StatusRequest { name, .. } => Some(name.copy()),
+        Message::Released { name, .. } => Some(name.copy()),
+        Message::Found { name, .. } => Some(name.copy()),
+        Message::Status { name, .. } => Some(name.copy()),
+        Message::Wait { name, .. } => Some(name.copy()),
         Message::NotFound { name, .. } => match name {
-            Some(name) => CName::of(&name.to_name()),
-            None => CName::none(),
+            Some(name) => Some(name.copy()),
+            None => None,
         },
     }
 }
