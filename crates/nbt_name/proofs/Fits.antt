@@ -1,6 +1,6 @@
 -- Octets and the numbers that they spell have their ranges, and wire forms their sizes.
 use Rattle.std.proofs.Common.{◌≡◌, ℕ, ◌+◌, ◌-◌, ◌^◌, ◌<◌, ◌≤◌, List, [], ◌∷◌, ◌++◌, length, take, drop, arith, inl, inr}
-use Rattle.nbt_name.proofs.Common.{slice_index, slice_range, cases_lt, length-append, length-take, get_or-drop, get_or-take, get_or-eq_default, word_at, long_at, NameValue, IsName, AreOctets, letters, wire, wire_size}
+use Rattle.nbt_name.proofs.Common.{slice_index, slice_range, cases_lt, length-append, length-take, get_or-drop, get_or-take, get_or-eq_default, word_at, long_at, name_of, NameValue, IsName, AreOctets, letters, wire, wire_size}
 use Rattle.nbt_name.proofs.Letters.{length-letters}
 
 octets_drop : (n : ℕ) (xs : List ℕ) → AreOctets xs → AreOctets (drop n xs)
@@ -25,3 +25,7 @@ long_fits octets place fits =
 
 pub length-wire : (n : NameValue) → IsName n → length (wire n) ≡ wire_size n
 length-wire n is = omega (arith, length-append (letters n.octets ++ n.scope) (0 ∷ []), length-append (letters n.octets) n.scope, length-letters n.octets, is.sixteen)
+
+-- the labels of a name are at most 255 octets
+pub length-first : (sixteen scope : List ℕ) → IsName (name_of sixteen scope) → length (0x20 ∷ letters sixteen ++ scope) ≤ 255
+length-first sixteen scope is = omega (arith, length-append (letters sixteen) scope, length-letters sixteen, is.sixteen, is.fits)

@@ -1,6 +1,6 @@
 -- Half-ASCII: letters and the octets that they spell.
-use Rattle.std.proofs.Common.{◌≡◌, ℕ, zero, suc, ◌+◌, ◌-◌, ◌*◌, ◌/◌, ◌%◌, ◌<◌, List, [], ◌∷◌, length, get_or, refl, sym, ap, ◌∙◌, arith}
-use Rattle.nbt_name.proofs.Common.{flat_map-cons, AreOctets, letters, IsLetter}
+use Rattle.std.proofs.Common.{◌≡◌, ℕ, zero, suc, ◌+◌, ◌-◌, ◌*◌, ◌/◌, ◌%◌, ◌<◌, List, [], ◌∷◌, length, get_or, refl, sym, ap, subst, ◌∙◌, arith, inl, inr}
+use Rattle.nbt_name.proofs.Common.{flat_map-cons, cases_lt, get_or-set_other, get_or-set_same, length-set, slice_set, AreOctets, letters, IsLetter}
 
 -- the two letters of an octet
 abbrev pub halves : ℕ → List ℕ
@@ -35,6 +35,55 @@ letters_from_each (o ∷ os) (a ∷ b ∷ ls) e are each =
     let odd : 2 * suc k + 1 ≡ suc (suc (2 * k + 1)) = omega arith in
     rw (odd, even) at (each (suc k) (omega arith))) in
     letters-cons o os ∙ cc
+
+-- the letters of an octet stand where its two halves belong
+abbrev pub HalvesAt : List ℕ → List ℕ → ℕ → Type 0
+HalvesAt os ls k = (get_or ls (2 * k) 0 ≡ 0x41 + get_or os k 0 / 16) × (get_or ls (2 * k + 1) 0 ≡ 0x41 + get_or os k 0 % 16)
+
+pub letters_spelled : (os ls : List ℕ) → length ls ≡ 2 * length os
+    → ((k : ℕ) → k < length os → HalvesAt os ls k) → ls ≡ letters os
+letters_spelled [] [] e each = refl
+letters_spelled [] (l ∷ ls) e each = absurd (omega arith)
+letters_spelled (o ∷ os) [] e each = absurd (omega arith)
+letters_spelled (o ∷ os) (l ∷ []) e each = absurd (omega arith)
+letters_spelled (o ∷ os) (a ∷ b ∷ ls) e each =
+    let first = each 0 (omega arith) in
+    let high : a ≡ 0x41 + o / 16 = first.0 in
+    let low : b ≡ 0x41 + o % 16 = first.1 in
+    let others : ls ≡ letters os = letters_spelled os ls (omega arith) (λ k lt.
+    let even : 2 * suc k ≡ suc (suc (2 * k)) = omega arith in
+    let odd : 2 * suc k + 1 ≡ suc (suc (2 * k + 1)) = omega arith in
+    rw (odd, even) at (each (suc k) (omega arith))) in
+    let all : a ∷ b ∷ ls ≡ (0x41 + o / 16) ∷ (0x41 + o % 16) ∷ letters os = cc in
+    all ∙ sym (letters-cons o os)
+
+-- two letters are put where the halves of the next octet belong
+abbrev pub with_halves : List ℕ → List ℕ → ℕ → List ℕ
+with_halves os ls k = slice_set (slice_set ls (2 * k) (0x41 + get_or os k 0 / 16)) (2 * k + 1) (0x41 + get_or os k 0 % 16)
+
+pub halves_put : (os ls : List ℕ) (k : ℕ) → 2 * k + 1 < length ls → ((i : ℕ) → i < k → HalvesAt os ls i) → (i : ℕ) → i < k + 1 → HalvesAt os (with_halves os ls k) i
+halves_put os ls k within were i less = elim (cases_lt i k) [ inl before ↦ left before | inr last ↦ subst (HalvesAt os (with_halves os ls k)) (omega (arith, less, last)) there ]
+  where
+    high : ℕ
+    high = 0x41 + get_or os k 0 / 16
+
+    low : ℕ
+    low = 0x41 + get_or os k 0 % 16
+
+    there : HalvesAt os (with_halves os ls k) k
+    there = (
+      get_or-set_other (slice_set ls (2 * k) high) (2 * k + 1) (2 * k) low 0 (λ e. omega (arith, e)) ∙ get_or-set_same ls (2 * k) high 0 (omega (arith, within)),
+      get_or-set_same (slice_set ls (2 * k) high) (2 * k + 1) low 0 (omega (arith, within, length-set ls (2 * k) high)),
+    )
+
+    left : i < k → HalvesAt os (with_halves os ls k) i
+    left before = (
+      get_or-set_other (slice_set ls (2 * k) high) (2 * k + 1) (2 * i) low 0 (λ e. omega (arith, e, before)) ∙ get_or-set_other ls (2 * k) (2 * i) high 0 (λ e. omega (arith, e, before)) ∙ (were i before).0,
+      get_or-set_other (slice_set ls (2 * k) high) (2 * k + 1) (2 * i + 1) low 0 (λ e. omega (arith, e, before)) ∙ get_or-set_other ls (2 * k) (2 * i + 1) high 0 (λ e. omega (arith, e, before)) ∙ (were i before).1,
+    )
+
+pub length-with_halves : (os ls : List ℕ) (k : ℕ) → length (with_halves os ls k) ≡ length ls
+length-with_halves os ls k = length-set (slice_set ls (2 * k) (0x41 + get_or os k 0 / 16)) (2 * k + 1) (0x41 + get_or os k 0 % 16) ∙ length-set ls (2 * k) (0x41 + get_or os k 0 / 16)
 
 -- octets are told apart by their letters
 pub octet_is : (o p : ℕ) → 0x41 + o / 16 ≡ 0x41 + p / 16 → 0x41 + o % 16 ≡ 0x41 + p % 16 → o ≡ p

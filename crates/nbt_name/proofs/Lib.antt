@@ -20,7 +20,7 @@ pub mod WireForms
 pub mod Ends
 -- the reader makes at most 112 steps for each octet, and 112 more
 pub mod Counts
--- a name that is lent where it stands has the scope that a reader passes
+-- labels stand in one row from each place on, which is the one that a reader passes
 pub mod Places
 -- in all octets, at each place, stands one of the two
 pub mod Looking

@@ -3,5 +3,5 @@ pub mod Scope
 pub mod Wire
 pub mod Numbers
 pub mod Reading
-pub mod Lent
+pub mod Labels
 pub mod Inner

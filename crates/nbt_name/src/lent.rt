@@ -1,17 +1,19 @@
 //! A name that is lent (RFC 1002 section 4.1).
 
-ghost use Rattle.std.specs.Prelude.{◌≡◌, ℕ, ◌+◌, ◌++◌, ◌<◌, ◌≤◌, ◌↔◌, Ok, Err, IfOk, IfErr, IsTrue, length};
+ghost use Rattle.std.specs.Prelude.{◌≡◌, ◌≢◌, ℕ, List, ◌+◌, ◌*◌, ◌++◌, ◌<◌, ◌≤◌, ◌↔◌, Ok, Err, IsOk, IfOk, IfErr, IsErrOf, IsTrue, length};
 ghost use Rattle.nbt_name.specs.declared.fault.NameFault.{NameFault};
-ghost use Rattle.nbt_name.specs.Reading.{NameAt, FaultAt};
+ghost use Rattle.nbt_name.specs.Reading.{steps_on, Stands, Fails, NameAt, FaultAt, PlainNameAt, PlainFaultAt};
+ghost use Rattle.nbt_name.specs.Scope.{IsScope};
 ghost use Rattle.nbt_name.specs.Wire.{NameValue, IsName, IsStar, name_of, wire};
 
-use crate::fault::NameFault;
+use crate::fault::{NameFault, NameRefusal};
 use crate::form::Form;
-use crate::name::{Name, put_form, scope_of};
+use crate::labels::Labels;
+use crate::name::{Name, is_scope, put_form};
 use crate::reader::Reader;
-use crate::reading::{pass, read_in};
+use crate::reading::pass;
 use crate::steps::Steps;
-use crate::wire::WIRE_WITHOUT_SCOPE;
+use crate::wire::SCOPE_MOST;
 use arrayvec::ArrayVec;
 use std::marker::{Brand, Model};
 use std::sync::ledger::{Blank, Ledger};
@@ -21,32 +23,42 @@ use std::sync::ledger::{Blank, Ledger};
 #[derive(Debug, Drop)]
 pub struct LentName<'a> {
     octets: [u8; 16],
-    scope: Scope<'a>,
-}
-
-/// Where a lent name's scope is.
-#[derive(Debug, Drop)]
-pub(crate) enum Scope<'a> {
-    /// It has none.
-    Empty,
-    /// Somebody holds it.
-    Held(&'a [u8]),
-    /// It is that of the name which stands in these octets at this place.
-    Placed(&'a [u8], usize),
+    scope: Labels<'a>,
 }
 
 impl<'a> Model for LentName<'a> {
-    ghost use Rattle.nbt_name.specs.Wire.{NameValue, name_of};
-    ghost use Rattle.nbt_name.specs.Lent.{scope_of, IsLent};
+    ghost use Rattle.nbt_name.specs.Wire.{NameValue, IsName, name_of};
 
     ghost Value = { NameValue };
 
-    ghost view = { λ n. name_of n.octets (scope_of n.scope) };
+    ghost view = { λ n. name_of n.octets n.scope };
 
-    ghost invariant = { λ n. IsLent n.octets n.scope };
+    ghost invariant = { λ n. IsName (name_of n.octets n.scope) };
 }
 
 impl<'a> LentName<'a> {
+    /// The name of sixteen octets and a scope, given as its labels, each after its length octet, without the closing zero. It
+    /// may begin with 0x2A. Refused as by `Name::any`: `ScopeLong` (2) if the scope has more than 221 octets; `BadLabel` (3) if
+    /// it is no sequence of labels of 1 to 63 octets.
+    pub fn new(octets: &[u8; 16], scope: &'a [u8]) -> Result<LentName<'a>, NameRefusal>
+        ensures found { IsOk result ↔ ((length scope.now ≤ 221) × IsScope scope.now) }
+        ensures name { IfOk result (λ name. name ≡ name_of octets.now scope.now) }
+        ensures long { IsErrOf result NameRefusal.ScopeLong ↔ (221 < length scope.now) }
+        ensures bad { IsErrOf result NameRefusal.BadLabel ↔ ((length scope.now ≤ 221) × (¬ IsScope scope.now)) }
+        ensures not_star { result ≢ Err NameRefusal.Star }
+    {
+        if scope.len() > SCOPE_MOST {
+            return Err(NameRefusal::ScopeLong);
+        }
+        if !is_scope(scope) {
+            return Err(NameRefusal::BadLabel);
+        }
+        Ok(LentName {
+            octets: *octets,
+            scope: Labels::of_scope(scope),
+        })
+    }
+
     /// The sixteen octets.
     pub fn octets(&self) -> &[u8; 16]
         ensures value { result.now ≡ self.now.octets }
@@ -62,18 +74,20 @@ impl<'a> LentName<'a> {
         self.octets[0] == Name::STAR
     }
 
+    /// Whether its scope is that of another name.
+    pub fn has_scope_of(&self, name: &Name) -> bool
+        ensures { IsTrue result ↔ (self.now.scope ≡ name.now.scope) }
+    {
+        self.scope.copy().are(name.lend().scope)
+    }
+
     /// The same name, lent once more.
     pub fn copy(&self) -> LentName<'a>
         ensures { result ≡ self.now }
     {
-        let scope = match self.scope {
-            Scope::Empty => Scope::Empty,
-            Scope::Held(scope) => Scope::Held(scope),
-            Scope::Placed(octets, place) => Scope::Placed(octets, place),
-        };
         LentName {
             octets: self.octets,
-            scope,
+            scope: self.scope.copy(),
         }
     }
 
@@ -81,44 +95,21 @@ impl<'a> LentName<'a> {
     pub fn to_name(&self) -> Name
         ensures { result ≡ self.now }
     {
-        match self.scope {
-            Scope::Empty => Name::from_parts(self.octets, ArrayVec::new()),
-            Scope::Held(scope) => Name::from_parts(self.octets, scope_of(scope)),
-            Scope::Placed(octets, place) => read_in(octets, place).unwrap().0,
-        }
+        Name::from_parts(self.octets, self.scope.copy().collected())
     }
 
     /// Whether it is the same name as another one.
     pub fn is_same(&self, other: &LentName<'_>) -> bool
         ensures { IsTrue result ↔ (self.now ≡ other.now) }
     {
-        match (&self.scope, &other.scope) {
-            (Scope::Empty, Scope::Empty) => self.octets == other.octets,
-            _ => self.to_name() == other.to_name(),
-        }
+        self.octets == other.octets && self.scope.copy().are(other.scope.copy())
     }
 
     /// Whether it is this name.
     pub fn is(&self, name: &Name) -> bool
         ensures { IsTrue result ↔ (self.now ≡ name.now) }
     {
-        match self.scope {
-            Scope::Empty => self.octets == *name.octets() && name.scope().is_empty(),
-            _ => self.to_name() == *name,
-        }
-    }
-
-    /// How many octets the wire form has: 34 to 255 (RFC 1002 section 4.1).
-    pub fn wire_len(&self) -> usize
-        ensures value { result ≡ length (wire self.now) }
-        ensures bounds { (34 ≤ result) × (result ≤ 255) }
-        ensures name { IsName self.now }
-    {
-        match self.scope {
-            Scope::Empty => WIRE_WITHOUT_SCOPE,
-            Scope::Held(scope) => WIRE_WITHOUT_SCOPE + scope.len(),
-            Scope::Placed(..) => self.to_name().wire_len(),
-        }
+        self.is_same(&name.lend())
     }
 
     /// Appends the wire form, 34 to 255 octets. The caller must ensure that 255 fit (RFC 1001 section 14, RFC 1002 section
@@ -129,11 +120,7 @@ impl<'a> LentName<'a> {
         ensures fits { length (wire self.now) ≤ 255 }
         ensures name { IsName self.now }
     {
-        match self.scope {
-            Scope::Empty => put_form(&self.octets, &[], out),
-            Scope::Held(scope) => put_form(&self.octets, scope, out),
-            Scope::Placed(..) => self.to_name().put_wire(out),
-        }
+        put_form(&self.octets, self.scope.copy(), out);
     }
 }
 
@@ -142,18 +129,22 @@ impl Name {
     pub fn lend(&self) -> LentName<'_>
         ensures { result ≡ self.now }
     {
-        let octets = *self.octets();
-        if self.scope().is_empty() {
-            return LentName {
-                octets,
-                scope: Scope::Empty,
-            };
-        }
         LentName {
-            octets,
-            scope: Scope::Held(self.scope()),
+            octets: *self.octets(),
+            scope: Labels::of_scope(self.scope()),
         }
     }
+}
+
+/// Finds the plain name at `place`, as `read_plain` reads it, and returns it with the place after it. The fault is the same one.
+/// The caller must ensure that `place` is at most the length.
+pub fn find_plain(octets: &[u8], place: usize) -> Result<(LentName<'_>, usize), NameFault>
+    requires { place ≤ length octets.now }
+    ensures name { (name : NameValue) (next : ℕ) → (result ≡ Ok (name, next)) ↔ PlainNameAt octets.now place name next }
+    ensures fault { (fault : NameFault) → (result ≡ Err fault) ↔ PlainFaultAt octets.now place fault }
+    ensures within { IfOk result (λ read. read.1 ≤ length octets.now) }
+{
+    find_uncounted::<Brand>(Form::Plain, octets, place, Blank::new(1))
 }
 
 /// Finds the name at `place`, following pointers, as `read_in` reads it, and returns it with the place after it. The fault is
@@ -164,11 +155,12 @@ pub fn find_in(octets: &[u8], place: usize) -> Result<(LentName<'_>, usize), Nam
     ensures fault { (fault : NameFault) → (result ≡ Err fault) ↔ FaultAt octets.now place fault }
     ensures within { IfOk result (λ read. read.1 ≤ length octets.now) }
 {
-    find_uncounted::<Brand>(octets, place, Blank::new(1))
+    find_uncounted::<Brand>(Form::Compressed, octets, place, Blank::new(1))
 }
 
-/// Finds a name, without counting the steps.
+/// Finds a name in one of the two forms, without counting the steps.
 fn find_uncounted<L: Ledger>(
+    form: Form,
     octets: &[u8],
     place: usize,
     blank: Blank,
@@ -177,18 +169,36 @@ fn find_uncounted<L: Ledger>(
     requires name { blank.name ≡ L.name }
     requires parts { blank.parts ≡ L.parts }
     requires part_count { 0 < blank.parts }
-    ensures name { IfOk result (λ read. NameAt octets.now place read.0 read.1) }
-    ensures fault { IfErr result (FaultAt octets.now place) }
+    ensures name { IfOk result (λ read. Stands form octets.now place read.0 read.1) }
+    ensures fault { IfErr result (Fails form octets.now place) }
+{
+    let mut steps = Steps::<L>::new(blank);
+    find(form, octets, place, &mut steps)
+}
+
+/// Finds a name in one of the two forms: what is found stands there.
+pub(crate) fn find<'a, L: Ledger>(
+    form: Form,
+    octets: &'a [u8],
+    place: usize,
+    steps: &mut Steps<L>,
+) -> Result<(LentName<'a>, usize), NameFault>
+    requires { place ≤ length octets.now }
+    ensures name { IfOk result (λ read. Stands form octets.now place read.0 read.1) }
+    ensures fault { IfErr result (Fails form octets.now place) }
+    ensures steps { IfOk result (λ read. (stands : Stands form octets.now place read.0 read.1) → steps.new ≡ steps.old + steps_on stands.path + 1) }
+    ensures refused { IfErr result (λ fault. (fails : Fails form octets.now place fault) → steps.new ≡ steps.old + steps_on fails.path) }
+    ensures step_count { steps.new ≤ steps.old + 112 * (length octets.now + 1) }
 {
     let mut reader = Reader::new(place);
-    let mut steps = Steps::<L>::new(blank);
-    let (sixteen, next) = pass(&mut reader, Form::Compressed, octets, place, &mut steps)?;
-    let name = lent(octets, place, sixteen, reader.scope.as_slice(), next);
+    let (sixteen, next) = pass(&mut reader, form, octets, place, steps)?;
+    let name = placed(form, octets, place, sixteen, reader.scope.as_slice(), next);
     Ok((name, next))
 }
 
-/// The name that stands in these octets at this place, of these sixteen octets and this scope, as it is lent.
-fn lent<'a>(
+/// The name that stands at this place, of these sixteen octets and this scope, as it is lent.
+fn placed<'a>(
+    form: Form,
     octets: &'a [u8],
     place: usize,
     sixteen: [u8; 16],
@@ -196,17 +206,19 @@ fn lent<'a>(
     next: usize,
 ) -> LentName<'a>
     requires within { place ≤ length octets.now }
-    requires stands { NameAt octets.now place (name_of sixteen scope.now) next }
+    requires stands { Stands form octets.now place (name_of sixteen scope.now) next }
     ensures { result ≡ name_of sixteen scope.now }
 {
     if scope.is_empty() {
         return LentName {
             octets: sixteen,
-            scope: Scope::Empty,
+            scope: Labels::none(),
         };
     }
+    let mut labels = Labels::at(octets, place);
+    labels.next();
     LentName {
         octets: sixteen,
-        scope: Scope::Placed(octets, place),
+        scope: labels,
     }
 }

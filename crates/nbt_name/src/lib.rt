@@ -8,6 +8,7 @@
 mod addr;
 mod fault;
 mod form;
+mod labels;
 pub mod laws;
 mod lent;
 mod name;
@@ -19,7 +20,7 @@ mod words;
 
 pub use addr::{Addr, Kind};
 pub use fault::{NameFault, NameFaultKind, NameRefusal};
-pub use lent::{LentName, find_in};
+pub use lent::{LentName, find_in, find_plain};
 pub use name::Name;
 pub use reading::{read_in, read_in_counted, read_plain};
 pub use steps::Steps;

@@ -2,10 +2,12 @@
 
 ghost use Rattle.std.specs.Prelude.{◌≡◌, ◌≢◌, ◌+◌, ◌<◌, ◌≤◌, ◌↔◌, List, [], ◌∷◌, ◌++◌, length, slice_index, replicate, IsTrue, IsOk, IfOk, IsErrOf};
 ghost use Rattle.nbt_name.specs.Scope.{IsScope};
-ghost use Rattle.nbt_name.specs.Wire.{IsName, IsStar, name_of, wire};
+ghost use Rattle.nbt_name.specs.Wire.{IsName, IsStar, letters, name_of, wire};
 
 use crate::fault::NameRefusal;
-use crate::wire::{LABEL_MOST, LETTERS, SCOPE_MOST, WIRE_WITHOUT_SCOPE};
+use crate::labels::Labels;
+use crate::lent::LentName;
+use crate::wire::{LABEL_MOST, LETTERS, LETTERS_COUNT, WIRE_WITHOUT_SCOPE};
 use arrayvec::ArrayVec;
 use std::marker::Model;
 
@@ -52,7 +54,7 @@ impl Name {
         if octets[0] == Name::STAR {
             return Err(NameRefusal::Star);
         }
-        Name::with_scope(*octets, scope)
+        Ok(LentName::new(octets, scope)?.to_name())
     }
 
     /// The name that stands for all names of a scope: 0x2A and fifteen zero octets (RFC 1002 section 4.2.17). Refused
@@ -65,24 +67,7 @@ impl Name {
     {
         let mut octets = [0; 16];
         octets[0] = Name::STAR;
-        Name::with_scope(octets, scope)
-    }
-
-    /// The name of sixteen octets and a scope, also one that begins with 0x2A; refused as by `any`.
-    fn with_scope(octets: [u8; 16], scope: &[u8]) -> Result<Name, NameRefusal>
-        ensures found { IsOk result ↔ ((length scope.now ≤ 221) × IsScope scope.now) }
-        ensures name { IfOk result (λ name. name ≡ name_of octets scope.now) }
-        ensures long { IsErrOf result NameRefusal.ScopeLong ↔ (221 < length scope.now) }
-        ensures bad { IsErrOf result NameRefusal.BadLabel ↔ ((length scope.now ≤ 221) × (¬ IsScope scope.now)) }
-        ensures not_star { result ≢ Err NameRefusal.Star }
-    {
-        if scope.len() > SCOPE_MOST {
-            return Err(NameRefusal::ScopeLong);
-        }
-        if !is_scope(scope) {
-            return Err(NameRefusal::BadLabel);
-        }
-        Ok(Name::from_parts(octets, scope_of(scope)))
+        Ok(LentName::new(&octets, scope)?.to_name())
     }
 
     /// The name of sixteen octets and a scope, also one that begins with 0x2A.
@@ -152,31 +137,43 @@ impl Name {
         ensures fits { length (wire self.now) ≤ 255 }
         ensures name { IsName self.now }
     {
-        put_form(&self.octets, self.scope.as_slice(), out);
+        self.lend().put_wire(out);
     }
 }
 
 /// Appends the wire form of a name of sixteen octets and a scope.
 pub(crate) fn put_form<const CAP: usize>(
     octets: &[u8; 16],
-    scope: &[u8],
+    scope: Labels<'_>,
     out: &mut ArrayVec<u8, CAP>,
 )
-    requires name { IsName (name_of octets.now scope.now) }
+    requires name { IsName (name_of octets.now scope) }
     requires room { length out.old.items + 255 ≤ CAP }
-    ensures { out.new.items ≡ out.old.items ++ wire (name_of octets.now scope.now) }
+    ensures { out.new.items ≡ out.old.items ++ wire (name_of octets.now scope.entry) }
 {
     out.push(LETTERS);
-    for octet in octets {
-        out.push(b'A' + *octet / 16);
-        out.push(b'A' + *octet % 16);
+    out.try_extend_from_slice(&letters_of(octets)).unwrap();
+    let mut labels = scope;
+    'labels: while let Some(label) = labels.next() {
+        out.try_extend_from_slice(label).unwrap();
     }
-    out.try_extend_from_slice(scope).unwrap();
     out.push(0);
 }
 
+/// The letters of sixteen octets, two for each (RFC 1001 section 14.1).
+fn letters_of(octets: &[u8; 16]) -> [u8; 32]
+    ensures { result ≡ letters octets.now }
+{
+    let mut letters = [0; LETTERS_COUNT];
+    for (k, octet) in octets.iter().enumerate() {
+        letters[2 * k] = b'A' + *octet / 16;
+        letters[2 * k + 1] = b'A' + *octet % 16;
+    }
+    letters
+}
+
 /// Whether these are labels of 1 to 63 octets, each after its length octet (RFC 1002 section 4.1).
-fn is_scope(scope: &[u8]) -> bool
+pub(crate) fn is_scope(scope: &[u8]) -> bool
     ensures { IsTrue result ↔ IsScope scope.now }
 {
     let mut rest = scope;

@@ -8,11 +8,11 @@ ghost use Rattle.nbt_name.specs.Reading.{start, steps_on, Stands, Fails, NameAt,
 
 use crate::fault::NameFault;
 use crate::form::Form;
+use crate::lent::{LentName, find, find_in, find_plain};
 use crate::name::Name;
 use crate::reader::{Progress, Reader};
 use crate::steps::Steps;
-use std::marker::Brand;
-use std::sync::ledger::{Blank, Ledger};
+use std::sync::ledger::Ledger;
 
 /// Reads the plain name at `place`, and returns it with the place after it. A pointer is a fault (`BadPointer`). The fault is
 /// the first one in reading order, with its place (RFC 1002 section 4.1). The caller must ensure that `place` is at most the
@@ -23,7 +23,7 @@ pub fn read_plain(octets: &[u8], place: usize) -> Result<(Name, usize), NameFaul
     ensures fault { (fault : NameFault) → (result ≡ Err fault) ↔ PlainFaultAt octets.now place fault }
     ensures within { IfOk result (λ read. read.1 ≤ length octets.now) }
 {
-    read_uncounted::<Brand>(Form::Plain, octets, place, Blank::new(1))
+    kept(find_plain(octets, place))
 }
 
 /// Reads the name at `place`, following pointers, and returns it with the place after it: after the first pointer, or after
@@ -35,7 +35,7 @@ pub fn read_in(octets: &[u8], place: usize) -> Result<(Name, usize), NameFault>
     ensures fault { (fault : NameFault) → (result ≡ Err fault) ↔ FaultAt octets.now place fault }
     ensures within { IfOk result (λ read. read.1 ≤ length octets.now) }
 {
-    read_uncounted::<Brand>(Form::Compressed, octets, place, Blank::new(1))
+    kept(find_in(octets, place))
 }
 
 /// Reads as `read_in` does, in at most 112 steps for each octet and 112 more, whatever the octets are (our profile). A step
@@ -54,44 +54,15 @@ pub fn read_in_counted<L: Ledger>(
     ensures refused { IfErr result (λ fault. (fails : FaultAt octets.now place fault) → steps.new ≡ steps.old + steps_on fails.path) }
     ensures step_count { steps.new ≤ steps.old + 112 * (length octets.now + 1) }
 {
-    read(Form::Compressed, octets, place, steps)
+    kept(find(Form::Compressed, octets, place, steps))
 }
 
-/// Reads a name in one of the two forms, without counting the steps.
-fn read_uncounted<L: Ledger>(
-    form: Form,
-    octets: &[u8],
-    place: usize,
-    blank: Blank,
-) -> Result<(Name, usize), NameFault>
-    requires place { place ≤ length octets.now }
-    requires name { blank.name ≡ L.name }
-    requires parts { blank.parts ≡ L.parts }
-    requires part_count { 0 < blank.parts }
-    ensures name { IfOk result (λ read. Stands form octets.now place read.0 read.1) }
-    ensures fault { IfErr result (Fails form octets.now place) }
+/// What was found, with a name that borrows nothing.
+fn kept(found: Result<(LentName<'_>, usize), NameFault>) -> Result<(Name, usize), NameFault>
+    ensures { result ≡ found.entry }
 {
-    let mut steps = Steps::<L>::new(blank);
-    read(form, octets, place, &mut steps)
-}
-
-/// Reads a name in one of the two forms: what is found stands there.
-fn read<L: Ledger>(
-    form: Form,
-    octets: &[u8],
-    place: usize,
-    steps: &mut Steps<L>,
-) -> Result<(Name, usize), NameFault>
-    requires { place ≤ length octets.now }
-    ensures name { IfOk result (λ read. Stands form octets.now place read.0 read.1) }
-    ensures fault { IfErr result (Fails form octets.now place) }
-    ensures steps { IfOk result (λ read. (stands : Stands form octets.now place read.0 read.1) → steps.new ≡ steps.old + steps_on stands.path + 1) }
-    ensures refused { IfErr result (λ fault. (fails : Fails form octets.now place fault) → steps.new ≡ steps.old + steps_on fails.path) }
-    ensures step_count { steps.new ≤ steps.old + 112 * (length octets.now + 1) }
-{
-    let mut reader = Reader::new(place);
-    let (sixteen, next) = pass(&mut reader, form, octets, place, steps)?;
-    Ok((Name::from_parts(sixteen, reader.scope), next))
+    let (name, next) = found?;
+    Ok((name.to_name(), next))
 }
 
 /// Has a reader pass the name at `place`, in one of the two forms, and returns the sixteen octets and the place after the

@@ -7,13 +7,13 @@
 ghost use Rattle.std.specs.Prelude.{◌≡◌, ℕ, ◌+◌, ◌<◌, ◌≤◌, ◌∷◌, ◌++◌, ◌↔◌, List, length, IsTrue, Some, IfSome, IfNone, OnSome, OnOk};
 ghost use Rattle.std.specs.String.{string_bytes};
 ghost use Rattle.nbt_name.specs.Scope.{IsScope};
-ghost use Rattle.nbt_name.specs.Wire.{NameValue, name_of, wire};
+ghost use Rattle.nbt_name.specs.Wire.{NameValue, name_of};
 ghost use Rattle.nbt_text.specs.NameText.{Component, IsPlain, IsPrefixed, IsTrimmed, PrintsName, PrintsComponent, Sixteen, SpellsName, StandsAsItIs, prefix};
 
 use crate::hexadecimal::write_hexadecimal;
 use crate::pieces::split_at_first;
 use arrayvec::ArrayVec;
-use nbt_name::{Name, read_plain};
+use nbt_name::{LentName, Name};
 use std::alloc::AllocError;
 
 /// What stands between two components.
@@ -121,32 +121,13 @@ fn push_counted(label: &[u8], scope: &mut ArrayVec<u8, 221>) -> Option<()>
     scope.try_extend_from_slice(label).ok()
 }
 
-/// The name of sixteen octets and a scope, also one that begins with `*`: read from its wire form.
+/// The name of sixteen octets and a scope, also one that begins with `*`.
 fn name_from(octets: &[u8; 16], scope: &[u8]) -> Name
     requires labels { IsScope scope.now }
     requires fits { length scope.now ≤ 221 }
     ensures { result ≡ name_of octets.now scope.now }
 {
-    nbt_name::laws::wire_form_is_read();
-    let wire = wire_from(octets, scope);
-    let (name, _) = read_plain(wire.as_slice(), 0).unwrap();
-    name
-}
-
-/// The wire form (RFC 1001 section 14, RFC 1002 section 4.1).
-fn wire_from(octets: &[u8; 16], scope: &[u8]) -> ArrayVec<u8, 255>
-    requires { length scope.now ≤ 221 }
-    ensures { result.items ≡ wire (name_of octets.now scope.now) }
-{
-    let mut wire = ArrayVec::new();
-    wire.push(0x20);
-    for octet in octets {
-        wire.push(b'A' + *octet / 16);
-        wire.push(b'A' + *octet % 16);
-    }
-    wire.try_extend_from_slice(scope).unwrap();
-    wire.push(0);
-    wire
+    LentName::new(octets, scope).unwrap().to_name()
 }
 
 /// What follows the `hex:` that a component in hexadecimal begins with; `None` where it doesn't begin so.

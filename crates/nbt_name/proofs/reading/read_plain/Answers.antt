@@ -1,11 +1,7 @@
-use Rattle.nbt_name.proofs.Common.{Plain}
-use Rattle.nbt_name.proofs.Ends.{result_within}
-use Rattle.nbt_name.proofs.Readers.{reads_stands, value_iff, fault_iff}
 use Rattle.nbt_name.proofs.reading.read_plain.Goals as goal
 
-pub returns : goal.returns
-returns c = record {
-  name = λ name next. value_iff (reads_stands Plain c.args.octets.now c.args.place) c.read_uncounted.result c.read_uncounted.ensures.name c.read_uncounted.ensures.fault (name, next);
-  fault = fault_iff (reads_stands Plain c.args.octets.now c.args.place) c.read_uncounted.result c.read_uncounted.ensures.name c.read_uncounted.ensures.fault;
-  within = result_within Plain c.args.octets.now c.args.place c.read_uncounted.result c.read_uncounted.ensures.name;
-}
+pub returns-clause-name : goal.returns-clause-name
+returns-clause-name c name next = rw c.kept.ensures (c.find_plain.ensures.name name next)
+
+pub returns-clause-fault : goal.returns-clause-fault
+returns-clause-fault c fault = rw c.kept.ensures (c.find_plain.ensures.fault fault)
