@@ -48,7 +48,10 @@ pub(crate) fn serve(
     match message {
         Message::Registration(asked) => lease(table, client_rows, now, ip, asked, out),
         Message::Refresh(asked) => lease(table, client_rows, now, ip, asked, out),
-        Message::Overwrite(asked) => Ok(refuse(asked, Refusal::Overwrite, out)),
+        Message::Overwrite(asked) => {
+            let claim = Claim::from_registration(&asked);
+            Ok(refuse(asked, claim, Refusal::Overwrite, out))
+        }
         Message::Release {
             id,
             name,
@@ -108,21 +111,21 @@ fn lease(
     ensures config { table.new.config ≡ table.old.config }
     ensures last { table.new.last ≤ now }
 {
+    let claim = Claim::from_registration(&asked);
     if let Some(refusal) = refusal_of(ip, &asked.name, asked.addr) {
-        return Ok(refuse(asked, refusal, out));
+        return Ok(refuse(asked, claim, refusal, out));
     }
-    let name = asked.name.to_name();
-    if is_full(client_rows, table, now, ip, &name) {
-        return Ok(refuse(asked, Refusal::ClientFull, out));
+    if is_full(client_rows, table, now, ip, &claim.name) {
+        return Ok(refuse(asked, claim, Refusal::ClientFull, out));
     }
-    let fault = match table.grant(now, &name, asked.addr, asked.kind, asked.ttl) {
-        Ok(grant) => return Ok(accept(asked, grant, out)),
+    let fault = match table.grant(now, &claim.name, asked.addr, asked.kind, asked.ttl) {
+        Ok(grant) => return Ok(accept(asked, claim, grant, out)),
         Err(fault) => fault,
     };
-    let Some(refusal) = refusal_by(fault, table, now, &name) else {
+    let Some(refusal) = refusal_by(fault, table, now, &claim.name) else {
         return Err(AllocError);
     };
-    Ok(refuse(asked, refusal, out))
+    Ok(refuse(asked, claim, refusal, out))
 }
 
 /// Whether a client is full for a name: it has no lease of it, and as many as it may have. A lease of the name is looked for
@@ -176,11 +179,17 @@ fn holder(table: &Table, now: Moment, name: &Name) -> u32
 }
 
 /// Leaves in `out` the positive response to a registration or a refresh (RFC 1002 section 4.2.5).
-fn accept(asked: Registration<'_>, grant: Grant, out: &mut ArrayVec<u8, 576>) -> Outcome
+fn accept(
+    asked: Registration<'_>,
+    claim: Claim,
+    grant: Grant,
+    out: &mut ArrayVec<u8, 576>,
+) -> Outcome
+    requires { claim ≡ claim_in asked }
     ensures outcome { result ≡ grant_outcome (claim_in asked.entry) grant }
     ensures written { AreWritten (Some (registered 0 (record asked.entry { ttl = grant.seconds }))) out.new.items }
 {
-    let claim = respond(asked, 0, grant.seconds, out);
+    respond(asked, 0, grant.seconds, out);
     if grant.renewed {
         Outcome::Renewed(claim, grant.seconds)
     } else {
@@ -190,20 +199,25 @@ fn accept(asked: Registration<'_>, grant: Grant, out: &mut ArrayVec<u8, 576>) ->
 
 /// Leaves in `out` the negative response to a registration, a refresh or an overwrite, with a TTL of 0 (RFC 1002 section
 /// 4.2.6).
-fn refuse(asked: Registration<'_>, refusal: Refusal, out: &mut ArrayVec<u8, 576>) -> Outcome
+fn refuse(
+    asked: Registration<'_>,
+    claim: Claim,
+    refusal: Refusal,
+    out: &mut ArrayVec<u8, 576>,
+) -> Outcome
+    requires { claim ≡ claim_in asked }
     ensures outcome { result ≡ Outcome.Refused (claim_in asked.entry) refusal }
     ensures written { AreWritten (Some (registered (rcode_of refusal) (record asked.entry { ttl = 0 }))) out.new.items }
 {
-    Outcome::Refused(respond(asked, refusal.rcode(), 0, out), refusal)
+    respond(asked, refusal.rcode(), 0, out);
+    Outcome::Refused(claim, refusal)
 }
 
-/// Leaves in `out` a response to a registration, a refresh or an overwrite, and returns its claim.
-fn respond(asked: Registration<'_>, rcode: u8, ttl: u32, out: &mut ArrayVec<u8, 576>) -> Claim
+/// Leaves in `out` a response to a registration, a refresh or an overwrite.
+fn respond(asked: Registration<'_>, rcode: u8, ttl: u32, out: &mut ArrayVec<u8, 576>)
     requires { rcode ≤ 15 }
-    ensures claim { result ≡ claim_in asked.entry }
-    ensures written { AreWritten (Some (registered rcode (record asked.entry { ttl = ttl }))) out.new.items }
+    ensures { AreWritten (Some (registered rcode (record asked.entry { ttl = ttl }))) out.new.items }
 {
-    let claim = Claim::from_registration(&asked);
     let registration = Registration { ttl, ..asked };
     write(
         &Message::Registered {
@@ -212,7 +226,6 @@ fn respond(asked: Registration<'_>, rcode: u8, ttl: u32, out: &mut ArrayVec<u8, 
         },
         out,
     );
-    claim
 }
 
 /// Releases a name, or refuses to (RFC 1002 section 5.1.4.1).
@@ -283,7 +296,8 @@ fn find(table: &mut Table, now: Moment, id: u16, name: Name, out: &mut ArrayVec<
     ensures last { table.new.last ≤ now }
 {
     table.sweep(now);
-    let listed = list(table, now, &name);
+    let mut entries = ArrayVec::new();
+    let listed = list(table, now, &name, &mut entries);
     let Some(end) = listed.end else {
         let missing = Message::NotFound {
             id,
@@ -297,7 +311,7 @@ fn find(table: &mut Table, now: Moment, id: u16, name: Name, out: &mut ArrayVec<
         id,
         name: name.lend(),
         ttl: seconds_left(now, end),
-        entries: listed.entries.as_slice(),
+        entries: entries.as_slice(),
         cut: listed.cut,
     };
     write(&found, out);
@@ -313,45 +327,36 @@ fn seconds_left(now: Moment, end: u64) -> u32
     milliseconds.div_ceil(1000) as u32
 }
 
-/// What a response to a query says of a name's live leases.
+/// What a response to a query says of a name's live leases, beside their entries.
 #[derive(Drop)]
 struct Listed {
-    /// The entries of the first ones, as many as fit, in their order (RFC 1002 section 4.2.13).
-    entries: ArrayVec<u8, ENTRIES_OCTETS>,
-    /// Whether there are more.
+    /// Whether it has more than fit.
     cut: bool,
     /// The first expiry of all; none if there is no lease.
     end: Option<u64>,
 }
 
-/// The response's part of a name's live leases, by one look-up. It reads those that fit, and one more at most.
-fn list(table: &Table, now: Moment, name: &Name) -> Listed
-    requires { table.now.last ≤ now }
-    ensures entries { result.entries.items ≡ entries (listed name.now (leases_at now table.now.rows name.now)) }
+/// Lists a name's live leases, by one look-up: puts the entries of the first ones, as many as fit, in their order (RFC 1002
+/// section 4.2.13). It reads those that fit, and one more at most.
+fn list(table: &Table, now: Moment, name: &Name, put: &mut ArrayVec<u8, ENTRIES_OCTETS>) -> Listed
+    requires time { table.now.last ≤ now }
+    requires empty { put.old.items ≡ [] }
+    ensures entries { put.new.items ≡ entries (listed name.now (leases_at now table.now.rows name.now)) }
     ensures cut { result.cut ≡ is_cut name.now (leases_at now table.now.rows name.now) }
     ensures end { IsLeastEnd (leases_at now table.now.rows name.now) result.end }
     ensures sound { AreSound (latest_end table.now.config now) (leases_at now table.now.rows name.now) }
     ensures room { 0 < entries_most name.now }
 {
-    let mut entries = ArrayVec::new();
     let mut room = entries_most(name);
     let leases = table.members(now, name);
     let end = leases.least_end();
     for lease in leases {
         if room == 0 {
-            return Listed {
-                entries,
-                cut: true,
-                end,
-            };
+            return Listed { cut: true, end };
         }
         let entry = entry_octets(lease.kind, lease.addr);
-        entries.try_extend_from_slice(&entry).unwrap();
+        put.try_extend_from_slice(&entry).unwrap();
         room -= 1;
     }
-    Listed {
-        entries,
-        cut: false,
-        end,
-    }
+    Listed { cut: false, end }
 }
