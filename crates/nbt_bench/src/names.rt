@@ -38,9 +38,9 @@ pub fn make_request<'a, P: Port + Drop>(
     let mut out = ArrayVec::new();
     let now = server.now();
     let is_made = match request {
-        Request::Register(kind) => end.node.ask(now, name, kind, TTL, &mut out).is_ok(),
-        Request::Release => end.node.release(now, name, &mut out).is_ok(),
-        Request::Query => end.node.resolve(now, name, &mut out).is_ok(),
+        Request::Register(kind) => end.node.ask(now, &name.lend(), kind, TTL, &mut out).is_ok(),
+        Request::Release => end.node.release(now, &name.lend(), &mut out).is_ok(),
+        Request::Query => end.node.resolve(now, &name.lend(), &mut out).is_ok(),
     };
     if is_made {
         exchange(end, server, &out, octets)

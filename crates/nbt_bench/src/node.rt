@@ -262,7 +262,7 @@ fn tell_end<W: Write>(
     ensures { OnOk result (Appends (W.contents writer.old) (W.contents writer.new)
         (held_text (holds node.now want.now.name now))) }
 {
-    match node.holds(now, &want.name) {
+    match node.holds(now, &want.name.lend()) {
         Some(_) => writeln!(writer, "held")?,
         None => writeln!(writer, "not held")?,
     }

@@ -162,7 +162,7 @@ fn holds(node: &Node<14>, now: u64, name: &CName, held: &mut u8) -> u8
     let Some(name) = name.read() else {
         return NO_NAME;
     };
-    *held = held_number(node.holds(now, &name));
+    *held = held_number(node.holds(now, &name.lend()));
     0
 }
 
@@ -196,7 +196,7 @@ fn stands(node: &Node<14>, now: u64, name: &CName, state: &mut u8) -> u8
     let Some(name) = name.read() else {
         return NO_NAME;
     };
-    let Some(standing) = node.standing(now, &name) else {
+    let Some(standing) = node.standing(now, &name.lend()) else {
         return ClockBack.number();
     };
     *state = standing_number(standing);

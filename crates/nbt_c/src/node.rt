@@ -100,7 +100,7 @@ fn ask(node: &mut Node<14>, now: u64, name: &CName, kind: u8, ttl: u32, out: &mu
     let Some(kind) = kind_of(kind) else {
         return NO_KIND;
     };
-    match node.ask(now, &name, kind, ttl, out) {
+    match node.ask(now, &name.lend(), kind, ttl, out) {
         Ok(()) => 0,
         Err(fault) => fault.number(),
     }
@@ -141,7 +141,7 @@ fn release(node: &mut Node<14>, now: u64, name: &CName, out: &mut Octets) -> u8
     let Some(name) = name.read() else {
         return NO_NAME;
     };
-    match node.release(now, &name, out) {
+    match node.release(now, &name.lend(), out) {
         Ok(()) => 0,
         Err(fault) => fault.number(),
     }
@@ -179,7 +179,7 @@ fn resolve(node: &mut Node<14>, now: u64, name: &CName, out: &mut Octets) -> u8
     let Some(name) = name.read() else {
         return NO_NAME;
     };
-    match node.resolve(now, &name, out) {
+    match node.resolve(now, &name.lend(), out) {
         Ok(()) => 0,
         Err(fault) => fault.number(),
     }
@@ -217,7 +217,7 @@ fn ask_status(node: &mut Node<14>, now: u64, to: Addr, name: &CName, out: &mut O
     let Some(name) = name.read() else {
         return NO_NAME;
     };
-    match node.name_status(now, to, &name, out) {
+    match node.name_status(now, to, &name.lend(), out) {
         Ok(()) => 0,
         Err(fault) => fault.number(),
     }

@@ -41,7 +41,7 @@ pub(crate) fn begin<const N: usize>(
     ensures err { OnErr result (node.new ≡ node.old) }
 {
     match question {
-        Question::Holders(_, name) => node.resolve(now, name, out),
-        Question::Names(to, name) => node.name_status(now, *to, name, out),
+        Question::Holders(_, name) => node.resolve(now, &name.lend(), out),
+        Question::Names(to, name) => node.name_status(now, *to, &name.lend(), out),
     }
 }

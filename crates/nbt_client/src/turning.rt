@@ -90,7 +90,7 @@ fn ask<P: Port, const N: usize>(
     ensures err { OnErr result ((octets : List ℕ) × AsksFor now want.now node.old octets node.new × P.does port.old (send_failed server octets) port.new) }
     ensures device { CountsFailure (P.failures port.old) (P.failures port.new) result }
 {
-    match node.ask(now, &want.name, want.kind, want.ttl, out) {
+    match node.ask(now, &want.name.lend(), want.kind, want.ttl, out) {
         Ok(()) => port.send(server, out.as_slice()),
         Err(_) => Ok(()),
     }

@@ -99,7 +99,7 @@ fn hand_up<'a, const N: usize>(
     ensures { Hands node.now now own (dgram_of dgram.now) delivery (whole names (octets_of payload.entry))
         (accept_of result) out.new.items }
 {
-    if node.holds(now, &names.destination).is_some() {
+    if node.holds(now, &names.destination.lend()).is_some() {
         return Accept::Up(names, payload);
     }
     if !delivery.is(Delivery::DirectUnique) {

@@ -318,7 +318,7 @@ pub fn forget_all(goals: &mut [Goal])
 fn is_asked<const N: usize>(node: &Node<N>, now: Moment, goal: &Goal) -> bool
     ensures { result ≡ is_asked node.now now goal.now }
 {
-    is_asking(node.standing(now, &goal.want.name))
+    is_asking(node.standing(now, &goal.want.name.lend()))
 }
 
 fn is_asking(standing: Option<Standing>) -> bool
@@ -334,7 +334,7 @@ fn is_asking(standing: Option<Standing>) -> bool
 fn see<const N: usize>(node: &Node<N>, now: Moment, goal: &mut Goal)
     ensures { goal.new ≡ seen node.now now goal.old }
 {
-    let is_held = node.holds(now, &goal.want.name).is_some();
+    let is_held = node.holds(now, &goal.want.name.lend()).is_some();
     let is_asked = is_asked(node, now, goal);
     goal.see(now, is_held, is_asked);
 }
@@ -362,7 +362,7 @@ fn hear<const N: usize>(
         return;
     };
     if notice.name == goal.want.name {
-        let is_held = node.holds(now, &goal.want.name).is_some();
+        let is_held = node.holds(now, &goal.want.name.lend()).is_some();
         goal.hear(config, now, is_held, notice.news);
     }
 }

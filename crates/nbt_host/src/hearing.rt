@@ -50,7 +50,7 @@ fn doubt<const N: usize>(node: &mut Node<N>, name: &Option<Name>)
     ensures { node.new ≡ doubting node.old name.now }
 {
     if let Some(name) = name {
-        node.refresh_soon(name);
+        node.refresh_soon(&name.lend());
     }
 }
 

@@ -446,5 +446,5 @@ fn are_held<const N: usize>(node: &Node<N>, now: Moment, goals: &[Goal]) -> bool
 fn is_held<const N: usize>(node: &Node<N>, now: Moment, goal: &Goal) -> bool
     ensures { result ≡ is_held node.now now goal.now }
 {
-    node.holds(now, &goal.want.name).is_some()
+    node.holds(now, &goal.want.name.lend()).is_some()
 }

@@ -24,9 +24,9 @@ fn request_for<const N: usize>(
     match goal.stage {
         Stage::Wanted if !goal.may_ask(now) => false,
         Stage::Wanted => node
-            .ask(now, name, goal.want.kind, goal.want.ttl, out)
+            .ask(now, &name.lend(), goal.want.kind, goal.want.ttl, out)
             .is_ok(),
-        _ => node.release(now, name, out).is_ok(),
+        _ => node.release(now, &name.lend(), out).is_ok(),
     }
 }
 

@@ -87,6 +87,18 @@ impl<'a> Labels<'a> {
         Some(&octets[place..end])
     }
 
+    /// How many octets they have.
+    pub(crate) fn len(self) -> usize
+        ensures { result ≡ length self.entry }
+    {
+        let mut labels = self;
+        let mut count = 0;
+        'labels: while let Some(label) = labels.next() {
+            count += label.len();
+        }
+        count
+    }
+
     /// The labels in a list of their own.
     pub(crate) fn collected(self) -> ArrayVec<u8, 221>
         requires { length self ≤ 221 }

@@ -13,7 +13,7 @@ use crate::name::{Name, is_scope, put_form};
 use crate::reader::Reader;
 use crate::reading::pass;
 use crate::steps::Steps;
-use crate::wire::SCOPE_MOST;
+use crate::wire::{SCOPE_MOST, WIRE_WITHOUT_SCOPE};
 use arrayvec::ArrayVec;
 use std::marker::{Brand, Model};
 use std::sync::ledger::{Blank, Ledger};
@@ -110,6 +110,15 @@ impl<'a> LentName<'a> {
         ensures { IsTrue result ↔ (self.now ≡ name.now) }
     {
         self.is_same(&name.lend())
+    }
+
+    /// How many octets the wire form has: 34 to 255 (RFC 1002 section 4.1).
+    pub fn wire_len(&self) -> usize
+        ensures value { result ≡ length (wire self.now) }
+        ensures bounds { (34 ≤ result) × (result ≤ 255) }
+        ensures name { IsName self.now }
+    {
+        WIRE_WITHOUT_SCOPE + self.scope.copy().len()
     }
 
     /// Appends the wire form, 34 to 255 octets. The caller must ensure that 255 fit (RFC 1001 section 14, RFC 1002 section

@@ -13,7 +13,7 @@ use crate::event::Event;
 use crate::node::Node;
 use arrayvec::ArrayVec;
 use nbt_lease::Moment;
-use nbt_name::{Kind, Name, put_long, put_word};
+use nbt_name::{Kind, LentName, put_long, put_word};
 use nbt_packet::{Message, entry_octets};
 
 /// The flags of a positive reply of an end node to a query: R, OPCODE 0, AA, RD; RA is clear (RFC 1002 section 4.2.13).
@@ -50,7 +50,7 @@ fn put_fields(out: &mut ArrayVec<u8, 576>)
 }
 
 /// The reply up to its entry.
-fn put_head(id: u16, name: &Name, out: &mut ArrayVec<u8, 576>)
+fn put_head(id: u16, name: &LentName<'_>, out: &mut ArrayVec<u8, 576>)
     requires { out.old.items ≡ [] }
     ensures form { out.new.items ≡ header id 0x8500 0 1 0 ++ (wire name.now ++ (word nb ++ word internet ++ long 0 ++ word 6)) }
     ensures room { length out.new.items ≤ 300 }
@@ -61,7 +61,7 @@ fn put_head(id: u16, name: &Name, out: &mut ArrayVec<u8, 576>)
 }
 
 /// Leaves in `out` a reply with this one entry and a TTL of 0, and nothing else (RFC 1002 section 4.2.13).
-fn put_answer(id: u16, name: &Name, kind: Kind, addr: u32, out: &mut ArrayVec<u8, 576>)
+fn put_answer(id: u16, name: &LentName<'_>, kind: Kind, addr: u32, out: &mut ArrayVec<u8, 576>)
     ensures { out.new.items ≡ answer_octets id 0x8500 name.now nb 0 (entry kind addr) }
 {
     out.clear();
@@ -75,7 +75,7 @@ fn answer<const N: usize>(
     node: &Node<N>,
     now: Moment,
     id: u16,
-    name: &Name,
+    name: &LentName<'_>,
     out: &mut ArrayVec<u8, 576>,
 ) -> bool
     ensures { answer_if node.now id name.now (holds node.now name.now now) ≡ (if result then Some out.new.items else None) }
@@ -106,7 +106,7 @@ pub fn reply_to<const N: usize>(
     ensures { sent_back node.now now (message_if message.now) (told_of event.entry) out.old.items ≡ (if result then Some out.new.items else None) }
 {
     match message {
-        Some(Message::Query { id, name }) => answer(node, now, *id, &name.to_name(), out),
+        Some(Message::Query { id, name }) => answer(node, now, *id, name, out),
         _ => is_reply(event),
     }
 }

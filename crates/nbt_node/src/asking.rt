@@ -4,7 +4,7 @@ ghost use Rattle.std.specs.Prelude.{◌≡◌};
 ghost use Rattle.nbt_packet.specs.Message.{message_of, IsRegistration, HoldsNumbers, release};
 ghost use Rattle.nbt_node.specs.Moves.{id_after};
 
-use nbt_name::{Kind, Name};
+use nbt_name::{Kind, LentName};
 use nbt_packet::{Message, Registration};
 
 /// The id after this one; 0 follows 65,535.
@@ -15,14 +15,14 @@ pub fn id_after(id: u16) -> u16
 }
 
 /// What a node with this address says of a name in a request for it.
-pub fn claim(own: u32, id: u16, name: &Name, kind: Kind, ttl: u32) -> Registration<'_>
+pub fn claim<'a>(own: u32, id: u16, name: &LentName<'a>, kind: Kind, ttl: u32) -> Registration<'a>
     ensures value { result ≡ record { id = id; name = name.now; kind = kind; addr = own; ttl = ttl } }
     ensures whole { IsRegistration result }
 {
     let _is_a_name = name.octets();
     Registration {
         id,
-        name: name.lend(),
+        name: name.copy(),
         kind,
         addr: own,
         ttl,
@@ -30,14 +30,14 @@ pub fn claim(own: u32, id: u16, name: &Name, kind: Kind, ttl: u32) -> Registrati
 }
 
 /// The request that releases a name.
-pub fn release(own: u32, id: u16, name: &Name, kind: Kind) -> Message<'_>
+pub fn release<'a>(own: u32, id: u16, name: &LentName<'a>, kind: Kind) -> Message<'a>
     ensures value { message_of result ≡ release id name.now kind own }
     ensures whole { HoldsNumbers (message_of result) }
 {
     let _is_a_name = name.octets();
     Message::Release {
         id,
-        name: name.lend(),
+        name: name.copy(),
         kind,
         addr: own,
     }

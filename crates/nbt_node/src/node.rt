@@ -18,7 +18,7 @@ use crate::transaction::{Transaction, next_due};
 use crate::waiting::{earlier, lookup_next_due, slots_next_due};
 use arrayvec::ArrayVec;
 use nbt_lease::{Config, Moment};
-use nbt_name::{Addr, Kind, Name};
+use nbt_name::{Addr, Kind, LentName};
 use nbt_packet::{Message, read, write};
 use std::marker::Model;
 
@@ -110,7 +110,7 @@ impl<const N: usize> Node<N> {
 
     /// As which kind the node holds the name at `now`; `None` where it doesn't, or where `now` is before the time of its
     /// last call.
-    pub fn holds(&self, now: Moment, name: &Name) -> Option<Kind>
+    pub fn holds(&self, now: Moment, name: &LentName<'_>) -> Option<Kind>
         ensures { result ≡ holds self.now name.now now }
     {
         if now.get() < self.last.get() {
@@ -121,7 +121,7 @@ impl<const N: usize> Node<N> {
 
     /// How the name stands at `now`, as time alone has left it; `None` where `now` is before the time of its last call. A
     /// registration that got no reply, and a hold that ended, show here alone: no call reports them.
-    pub fn standing(&self, now: Moment, name: &Name) -> Option<Standing>
+    pub fn standing(&self, now: Moment, name: &LentName<'_>) -> Option<Standing>
         ensures { result ≡ standing self.now name.now now }
     {
         if now.get() < self.last.get() {
@@ -132,7 +132,7 @@ impl<const N: usize> Node<N> {
     }
 
     /// Why the name may not be registered, judged by the node that is settled at `now`.
-    fn ask_fault(&self, now: Moment, name: &Name) -> Option<AskFault>
+    fn ask_fault(&self, now: Moment, name: &LentName<'_>) -> Option<AskFault>
         ensures fault { result ≡ ask_refusal self.now now name.now }
         ensures later { IsNone result → self.now.last ≤ now }
     {
@@ -156,7 +156,7 @@ impl<const N: usize> Node<N> {
     }
 
     /// Settles the node at `now`, gives the name another state, which settles too, and takes the next id.
-    fn change(&mut self, now: Moment, name: &Name, after: &State, next_id: u16)
+    fn change(&mut self, now: Moment, name: &LentName<'_>, after: &State, next_id: u16)
         requires { self.old.last ≤ now }
         ensures node { self.new ≡ changed self.old now name.now after.now next_id }
         ensures apart { AreDistinct self.old.slots }
@@ -178,7 +178,7 @@ impl<const N: usize> Node<N> {
     pub fn ask(
         &mut self,
         now: Moment,
-        name: &Name,
+        name: &LentName<'_>,
         kind: Kind,
         ttl: u32,
         out: &mut ArrayVec<u8, 576>,
@@ -213,7 +213,7 @@ impl<const N: usize> Node<N> {
     pub fn release(
         &mut self,
         now: Moment,
-        name: &Name,
+        name: &LentName<'_>,
         out: &mut ArrayVec<u8, 576>,
     ) -> Result<(), ReleaseFault>
         ensures refused { result_err result ≡ release_refusal self.old now name.now }
@@ -244,7 +244,7 @@ impl<const N: usize> Node<N> {
     /// since the last sending about the name, unless a refresh is pending. For a user that doubts whether the server still has the
     /// lease: only the reply to that refresh decides. The hold ends when it did; nothing else changes, and nothing at all where the
     /// name isn't held.
-    pub fn refresh_soon(&mut self, name: &Name)
+    pub fn refresh_soon(&mut self, name: &LentName<'_>)
         ensures { self.new ≡ refreshing_soon self.old name.now }
     {
         let state = slots::state_in(&self.slots, name);
@@ -285,7 +285,7 @@ impl<const N: usize> Node<N> {
         match first_due(&self.slots, self.addr.ip, self.next_id, self.config, now) {
             Some(sending) => {
                 let (name, state, next_id) = sending.written(out);
-                self.change(now, &name, &state, next_id);
+                self.change(now, &name.lend(), &state, next_id);
                 Ok(Some(self.server))
             }
             None => Ok(self.poll_lookup(now, out)),
@@ -327,7 +327,7 @@ impl<const N: usize> Node<N> {
     pub fn resolve(
         &mut self,
         now: Moment,
-        name: &Name,
+        name: &LentName<'_>,
         out: &mut ArrayVec<u8, 576>,
     ) -> Result<(), LookupFault>
         ensures refused { result_err result ≡ resolve_refusal self.old now name.now }
@@ -357,7 +357,7 @@ impl<const N: usize> Node<N> {
         &mut self,
         now: Moment,
         to: Addr,
-        name: &Name,
+        name: &LentName<'_>,
         out: &mut ArrayVec<u8, 576>,
     ) -> Result<(), LookupFault>
         ensures refused { result_err result ≡ status_refusal self.old now }
@@ -379,7 +379,7 @@ impl<const N: usize> Node<N> {
     fn look_up(
         &mut self,
         now: Moment,
-        name: &Name,
+        name: &LentName<'_>,
         to: Addr,
         wanted: Wanted,
         out: &mut ArrayVec<u8, 576>,
@@ -391,7 +391,7 @@ impl<const N: usize> Node<N> {
         let id = self.next_id;
         let lookup = Lookup {
             id,
-            name: name.copy(),
+            name: name.to_name(),
             to,
             wanted,
             tries: 1,
@@ -468,11 +468,11 @@ impl<const N: usize> Node<N> {
                 rcode,
                 registration,
             } => {
-                let name = registration.name.to_name();
-                let state = self.state_at(now, &name);
+                let name = &registration.name;
+                let state = self.state_at(now, name);
                 let seconds = self.config.granted(registration.ttl);
                 let outcome = on_registered(&state, *rcode, registration.id, seconds);
-                self.hear(now, from, &name, &outcome.state, outcome.event)
+                self.hear(now, from, name, &outcome.state, outcome.event)
             }
             Message::Released {
                 id,
@@ -480,18 +480,16 @@ impl<const N: usize> Node<N> {
                 name,
                 ..
             } => {
-                let name = name.to_name();
-                let state = self.state_at(now, &name);
+                let state = self.state_at(now, name);
                 let outcome = on_released(&state, *rcode, *id);
-                self.hear(now, from, &name, &outcome.state, outcome.event)
+                self.hear(now, from, name, &outcome.state, outcome.event)
             }
             Message::Wait { id, name, ttl } => {
-                let name = name.to_name();
-                let state = self.state_at(now, &name);
+                let state = self.state_at(now, name);
                 let outcome = on_wait(&state, *id, *ttl, now);
-                self.hear(now, from, &name, &outcome.state, outcome.event)
+                self.hear(now, from, name, &outcome.state, outcome.event)
             }
-            Message::StatusRequest { id, name } => self.list_names(now, *id, &name.to_name(), out),
+            Message::StatusRequest { id, name } => self.list_names(now, *id, name, out),
             Message::Found { entries, cut, .. } => {
                 let found = Event::Found { entries, cut: *cut };
                 self.end_lookup(now, from, message, found)
@@ -519,7 +517,7 @@ impl<const N: usize> Node<N> {
         &mut self,
         now: Moment,
         id: u16,
-        name: &Name,
+        name: &LentName<'_>,
         out: &mut ArrayVec<u8, 576>,
     ) -> Event<'a>
         requires later { self.old.last ≤ now }
@@ -531,13 +529,13 @@ impl<const N: usize> Node<N> {
         if !is_listed_for {
             return Event::Nothing;
         }
-        let names = listed(&self.slots, name.scope());
+        let names = listed(&self.slots, name);
         write_names(id, name, names.as_slice(), out);
         Event::Reply
     }
 
     /// Whether a status request for this name is replied to.
-    fn is_listed_for(&self, now: Moment, name: &Name) -> bool
+    fn is_listed_for(&self, now: Moment, name: &LentName<'_>) -> bool
         ensures { result ≡ is_listed_for self.now now name.now }
     {
         name.is_star() || self.state_at(now, name).held_kind().is_some()
@@ -567,7 +565,7 @@ impl<const N: usize> Node<N> {
         &mut self,
         now: Moment,
         from: Addr,
-        name: &Name,
+        name: &LentName<'_>,
         state: &State,
         event: Event<'a>,
     ) -> Event<'a>
@@ -585,7 +583,7 @@ impl<const N: usize> Node<N> {
     }
 
     /// The name's state at `now`.
-    fn state_at(&self, now: Moment, name: &Name) -> State
+    fn state_at(&self, now: Moment, name: &LentName<'_>) -> State
         ensures { result ≡ state_at self.now now name.now }
     {
         slots::state_in(&self.slots, name).settled(self.config, now)

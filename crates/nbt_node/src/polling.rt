@@ -45,7 +45,7 @@ impl Sending<'_> {
 /// What is to be sent about a name, if anything, by a node with this address and next id.
 fn polled<'a>(
     state: &State,
-    name: &'a Name,
+    name: &LentName<'a>,
     own: u32,
     id: u16,
     config: Config,
@@ -65,7 +65,7 @@ fn polled<'a>(
                 return None;
             }
             Some(Sending {
-                name: name.lend(),
+                name: name.copy(),
                 state: State::Asking {
                     kind: *kind,
                     ttl: *ttl,
@@ -81,7 +81,7 @@ fn polled<'a>(
                 return None;
             }
             Some(Sending {
-                name: name.lend(),
+                name: name.copy(),
                 state: State::Releasing {
                     kind: *kind,
                     last: now,
@@ -104,7 +104,7 @@ fn polled<'a>(
                 None => return None,
             };
             Some(Sending {
-                name: name.lend(),
+                name: name.copy(),
                 message: Message::Refresh(claim(own, refresh.id, name, *kind, *ttl)),
                 state: State::Held {
                     kind: *kind,
@@ -166,7 +166,7 @@ fn slot_due<'a>(
     match slot {
         Some(kept) => polled(
             &kept.state.settled(config, now),
-            &kept.name,
+            &kept.name.lend(),
             own,
             id,
             config,

@@ -2,21 +2,22 @@
 
 ghost use Rattle.std.specs.Prelude.{◌≡◌, map, is_none};
 ghost use Rattle.std.specs.List.{position};
+ghost use Rattle.nbt_name.specs.Wire.{same_name};
 ghost use Rattle.nbt_node.specs.Node.{state_in, slot_of, settled_slot, is_named, has_room, with_state};
 ghost use Rattle.nbt_node.specs.Settling.{settled};
 
 use crate::state::{Slot, State};
 use nbt_lease::{Config, Moment};
-use nbt_name::Name;
+use nbt_name::LentName;
 
 /// The state of a name: `Idle` where it has no slot.
-pub fn state_in(slots: &[Option<Slot>], name: &Name) -> State
+pub fn state_in(slots: &[Option<Slot>], name: &LentName<'_>) -> State
     ensures { result ≡ state_in slots.now name.now }
 {
     for slot in slots {
-        if let Some(slot) = slot {
-            if slot.name == *name {
-                return slot.state;
+        if let Some(kept) = slot {
+            if is_of(kept, name) {
+                return kept.state;
             }
         }
     }
@@ -69,17 +70,24 @@ pub fn has_room(slots: &[Option<Slot>], config: Config, now: Moment) -> bool
 }
 
 /// Whether this is the name's slot.
-fn is_named(slot: &Option<Slot>, name: &Name) -> bool
+fn is_named(slot: &Option<Slot>, name: &LentName<'_>) -> bool
     ensures { result ≡ is_named slot.now name.now }
 {
     match slot {
-        Some(slot) => slot.name == *name,
+        Some(kept) => is_of(kept, name),
         None => false,
     }
 }
 
+/// Whether a slot that isn't free is the name's.
+fn is_of(kept: &Slot, name: &LentName<'_>) -> bool
+    ensures { result ≡ same_name kept.now.name name.now }
+{
+    name.is(&kept.name)
+}
+
 /// The place of the name's slot.
-fn find(slots: &[Option<Slot>], name: &Name) -> Option<usize>
+fn find(slots: &[Option<Slot>], name: &LentName<'_>) -> Option<usize>
     ensures { result ≡ position (λ slot. is_named slot name.now) slots.now }
 {
     slots.iter().position(|slot| is_named(slot, name))
@@ -93,20 +101,20 @@ fn find_free(slots: &[Option<Slot>]) -> Option<usize>
 }
 
 /// The slot of a name in this state. A name that is `Idle` has none.
-fn slot_of(name: &Name, state: &State) -> Option<Slot>
+fn slot_of(name: &LentName<'_>, state: &State) -> Option<Slot>
     ensures { result ≡ slot_of name.now state.now }
 {
     if *state == State::Idle {
         return None;
     }
     Some(Slot {
-        name: name.copy(),
+        name: name.to_name(),
         state: *state,
     })
 }
 
 /// Puts another state into the name's slot, or else into the lowest free one.
-pub fn change(slots: &mut [Option<Slot>], name: &Name, state: &State)
+pub fn change(slots: &mut [Option<Slot>], name: &LentName<'_>, state: &State)
     ensures { slots.new ≡ with_state slots.old name.now state.now }
 {
     if let Some(place) = find(slots, name) {

@@ -9,35 +9,35 @@ ghost use Rattle.nbt_node.specs.Datagrams.{listed};
 
 use crate::state::Slot;
 use arrayvec::ArrayVec;
-use nbt_name::Name;
+use nbt_name::LentName;
 use nbt_packet::{Message, status_name_octets, write};
 
-/// The octets of the names that are held in one scope, in order of slots.
-pub fn listed(slots: &[Option<Slot>], scope: &[u8]) -> ArrayVec<u8, 252>
+/// The octets of the names that are held in the scope of the name that is asked for, in order of slots.
+pub fn listed(slots: &[Option<Slot>], asked: &LentName<'_>) -> ArrayVec<u8, 252>
     requires { length slots.now ≤ slots_most }
-    ensures names { result.items ≡ flat_map (listed scope.now) slots.now }
+    ensures names { result.items ≡ flat_map (listed asked.now.scope) slots.now }
     ensures octets_at_most { length result.items ≤ 252 }
     ensures whole { length result.items % 18 ≡ 0 }
 {
     let mut names = ArrayVec::new();
     for slot in slots {
-        list(slot, scope, &mut names);
+        list(slot, asked, &mut names);
     }
     names
 }
 
-/// Lists the name of one slot, where it is held in the scope.
-fn list(slot: &Option<Slot>, scope: &[u8], names: &mut ArrayVec<u8, 252>)
+/// Lists the name of one slot, where it is held in that scope.
+fn list(slot: &Option<Slot>, asked: &LentName<'_>, names: &mut ArrayVec<u8, 252>)
     requires room { length names.old.items ≤ 234 }
-    ensures names { names.new.items ≡ names.old.items ++ listed scope.now slot.now }
-    ensures octets_at_most { length (listed scope.now slot.now) ≤ 18 }
-    ensures whole { length (listed scope.now slot.now) % 18 ≡ 0 }
+    ensures names { names.new.items ≡ names.old.items ++ listed asked.now.scope slot.now }
+    ensures octets_at_most { length (listed asked.now.scope slot.now) ≤ 18 }
+    ensures whole { length (listed asked.now.scope slot.now) % 18 ≡ 0 }
 {
     let kept = match slot {
         Some(kept) => kept,
         None => return,
     };
-    if kept.name.scope() != scope {
+    if !asked.has_scope_of(&kept.name) {
         return;
     }
     let kind = match kept.state.held_kind() {
@@ -49,7 +49,7 @@ fn list(slot: &Option<Slot>, scope: &[u8], names: &mut ArrayVec<u8, 252>)
 }
 
 /// Leaves in `out` the reply that lists these names, and nothing else.
-pub fn write_names(id: u16, name: &Name, names: &[u8], out: &mut ArrayVec<u8, 576>)
+pub fn write_names(id: u16, name: &LentName<'_>, names: &[u8], out: &mut ArrayVec<u8, 576>)
     requires octets_at_most { length names.now ≤ 252 }
     requires whole { length names.now % 18 ≡ 0 }
     ensures { AreWritten (Some (status id name.now names.now)) out.new.items }
@@ -57,7 +57,7 @@ pub fn write_names(id: u16, name: &Name, names: &[u8], out: &mut ArrayVec<u8, 57
     let _is_a_name = name.octets();
     let reply = Message::Status {
         id,
-        name: name.lend(),
+        name: name.copy(),
         names,
     };
     write(&reply, out);

@@ -276,7 +276,9 @@ fn claim_of(world: &World, column: usize, name: &Name, addr: u32) -> Option<Span
 fn kind_held(world: &World, number: usize, name: &Name) -> Option<Kind>
     ensures { result ≡ holding world.now number name.now }
 {
-    world.node(number)?.holds(world.reading(number), name)
+    world
+        .node(number)?
+        .holds(world.reading(number), &name.lend())
 }
 
 /// The live lease of a name that a machine has.
@@ -337,7 +339,7 @@ fn end_of_hold(node: &Node<SLOTS>, name: &Name, held: u64, now: u64) -> Option<u
 
 fn holds_at(node: &Node<SLOTS>, name: &Name, ms: u64) -> bool {
     match Moment::new(ms) {
-        Some(moment) => node.holds(moment, name).is_some(),
+        Some(moment) => node.holds(moment, &name.lend()).is_some(),
         None => false,
     }
 }

@@ -156,7 +156,7 @@ impl<const L: usize, const M: usize> Listener<L, M> {
     {
         let held = match &event {
             Event::Packet(Packet::Request { called, calling: _ }) => {
-                node.holds(now, called).is_some()
+                node.holds(now, &called.lend()).is_some()
             }
             _ => false,
         };

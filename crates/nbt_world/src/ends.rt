@@ -70,7 +70,7 @@ impl NodeEnd {
         ensures { result ≡ held_by self.now.node name.now now }
     {
         match &self.node {
-            Some(node) => node.holds(now, name),
+            Some(node) => node.holds(now, &name.lend()),
             None => None,
         }
     }

@@ -32,7 +32,7 @@ fn ask(
     requires { node.old.server ≡ server }
     ensures { (number : ℕ) → NodeDoes node.old now (Event.Ask number name.now kind ttl) node.new (given_of result out.new.items) }
 {
-    match node.ask(now, name, kind, ttl, out) {
+    match node.ask(now, &name.lend(), kind, ttl, out) {
         Ok(()) => CallOutcome::To(server),
         Err(fault) => CallOutcome::Refusal(fault.number()),
     }
@@ -49,7 +49,7 @@ fn release(
     requires { node.old.server ≡ server }
     ensures { (number : ℕ) → NodeDoes node.old now (Event.Release number name.now) node.new (given_of result out.new.items) }
 {
-    match node.release(now, name, out) {
+    match node.release(now, &name.lend(), out) {
         Ok(()) => CallOutcome::To(server),
         Err(fault) => CallOutcome::Refusal(fault.number()),
     }
@@ -66,7 +66,7 @@ fn resolve(
     requires { node.old.server ≡ server }
     ensures { (number : ℕ) → NodeDoes node.old now (Event.Resolve number name.now) node.new (given_of result out.new.items) }
 {
-    match node.resolve(now, name, out) {
+    match node.resolve(now, &name.lend(), out) {
         Ok(()) => CallOutcome::To(server),
         Err(fault) => CallOutcome::Refusal(fault.number()),
     }
@@ -82,7 +82,7 @@ fn name_status(
 ) -> CallOutcome
     ensures { (number : ℕ) → NodeDoes node.old now (Event.NameStatus number to name.now) node.new (given_of result out.new.items) }
 {
-    match node.name_status(now, to, name, out) {
+    match node.name_status(now, to, &name.lend(), out) {
         Ok(()) => CallOutcome::To(to),
         Err(fault) => CallOutcome::Refusal(fault.number()),
     }

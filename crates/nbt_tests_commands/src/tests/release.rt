@@ -73,7 +73,7 @@ fn ask<R: Abort>(
     told: Event<'_>,
 ) {
     let mut request: Datagram = ArrayVec::new();
-    let asked = node.ask(at(rt, ms), &fred(rt), Kind::Unique, 60, &mut request);
+    let asked = node.ask(at(rt, ms), &fred(rt).lend(), Kind::Unique, 60, &mut request);
     expect(rt, &ms, asked.is_ok());
     tells(rt, server, node, ms, from, &request, flags, told);
 }
@@ -81,7 +81,7 @@ fn ask<R: Abort>(
 /// It is too early for the node to ask for FRED.
 fn expect_quiet<R: Abort>(rt: &R, node: &mut Node<2>, ms: u64) {
     let mut request: Datagram = ArrayVec::new();
-    let asked = node.ask(at(rt, ms), &fred(rt), Kind::Unique, 60, &mut request);
+    let asked = node.ask(at(rt, ms), &fred(rt).lend(), Kind::Unique, 60, &mut request);
     expect(rt, &ms, asked.err() == Some(AskFault::Quiet));
 }
 
@@ -90,7 +90,7 @@ fn play<R: Abort>(rt: &R, server: &mut Server, first: &mut Node<2>, second: &mut
     let granted = Event::Granted(60);
     ask(rt, server, first, 60_000, FIRST, GRANTED, granted);
     let mut release: Datagram = ArrayVec::new();
-    let released = first.release(at(rt, 70_000), &fred(rt), &mut release);
+    let released = first.release(at(rt, 70_000), &fred(rt).lend(), &mut release);
     expect(rt, &70_000, released.is_ok());
     expect_quiet(rt, first, 70_500);
     let freed = Event::Freed(0);
@@ -100,11 +100,11 @@ fn play<R: Abort>(rt: &R, server: &mut Server, first: &mut Node<2>, second: &mut
     let refused = Event::Refused(6);
     ask(rt, server, first, 72_005, FIRST, REFUSED, refused);
     let now = at(rt, 72_005);
-    expect_eq(rt, &FIRST, &first.holds(now, &fred(rt)), &None);
+    expect_eq(rt, &FIRST, &first.holds(now, &fred(rt).lend()), &None);
     expect_eq(
         rt,
         &SECOND,
-        &second.holds(now, &fred(rt)),
+        &second.holds(now, &fred(rt).lend()),
         &Some(Kind::Unique),
     );
 }

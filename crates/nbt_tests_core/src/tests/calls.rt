@@ -230,7 +230,7 @@ const REGISTERED: &[u8; 62] =
 /// The node asks for FRED at 60,000, and holds it by a reply at 60,900.
 fn hold(rt: &impl Abort, node: &mut Node<2>, out: &mut ArrayVec<u8, 576>) {
     let fred = fred(rt, b"");
-    node.ask(at(rt, 60_000), &fred, Kind::Unique, 60, out)
+    node.ask(at(rt, 60_000), &fred.lend(), Kind::Unique, 60, out)
         .expect(rt, "ask");
     node.on_datagram(at(rt, 60_900), SERVER, REGISTERED, out)
         .expect(rt, "a reply");

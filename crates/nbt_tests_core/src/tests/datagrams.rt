@@ -382,7 +382,7 @@ const TEAM_GRANTED: &[u8] =
 /// The node is granted the group TEAM for 60 s at 60,000.
 fn hold_team(rt: &impl Abort, node: &mut Node<1>, out: &mut ArrayVec<u8, 576>) {
     let team = team(rt, b"");
-    node.ask(at(rt, 60_000), &team, Kind::Group, 60, out)
+    node.ask(at(rt, 60_000), &team.lend(), Kind::Group, 60, out)
         .expect(rt, "ask");
     let heard = node.on_datagram(at(rt, 60_000), FIRST_END, TEAM_GRANTED, out);
     if !matches!(heard, Ok(Event::Granted(60))) {

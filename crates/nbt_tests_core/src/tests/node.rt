@@ -215,22 +215,22 @@ fn go(
 ) {
     match *step {
         Step::Ask(_, name, kind, expected) => {
-            let asked = node.ask(now, &name_of(rt, name), kind, 60, out);
+            let asked = node.ask(now, &name_of(rt, name).lend(), kind, 60, out);
             expect_eq_in(rt, place, &asked.err(), &expected.err());
             expect_in(rt, place, out.as_slice() == expected.unwrap_or(b""));
         }
         Step::Release(_, expected) => {
-            let released = node.release(now, fred, out);
+            let released = node.release(now, &fred.lend(), out);
             expect_eq_in(rt, place, &released.err(), &expected.err());
             expect_in(rt, place, out.as_slice() == expected.unwrap_or(b""));
         }
         Step::Resolve(_, expected) => {
-            let resolved = node.resolve(now, fred, out);
+            let resolved = node.resolve(now, &fred.lend(), out);
             expect_eq_in(rt, place, &resolved.err(), &expected.err());
             expect_in(rt, place, out.as_slice() == expected.unwrap_or(b""));
         }
         Step::AskNames(_, expected) => {
-            node.name_status(now, OWN, fred, out)
+            node.name_status(now, OWN, &fred.lend(), out)
                 .expect(rt, "name status");
             expect_in(rt, place, out.as_slice() == expected);
         }
@@ -254,12 +254,12 @@ fn watch(
             expect_eq_in(rt, place, &to, &Ok(expected.map(|_| SERVER)));
             expect_in(rt, place, out.as_slice() == expected.unwrap_or(b""));
         }
-        Step::RefreshSoon(_) => node.refresh_soon(fred),
+        Step::RefreshSoon(_) => node.refresh_soon(&fred.lend()),
         Step::PollBack(_) => {
             expect_eq_in(rt, place, &node.poll(now, out), &Err(ClockBack));
         }
         Step::Holds(_, expected) => {
-            expect_eq_in(rt, place, &node.holds(now, fred), &expected);
+            expect_eq_in(rt, place, &node.holds(now, &fred.lend()), &expected);
         }
         Step::LookupOpen(_, expected) => {
             expect_eq_in(rt, place, &node.lookup_open(now), &expected);
@@ -268,7 +268,7 @@ fn watch(
             expect_eq_in(rt, place, &node.next_due(), &expected);
         }
         Step::Stands(_, expected) => {
-            expect_eq_in(rt, place, &node.standing(now, fred), &expected);
+            expect_eq_in(rt, place, &node.standing(now, &fred.lend()), &expected);
         }
         _ => return hear(rt, place, node, now, step, out),
     }
@@ -895,10 +895,10 @@ const FIRST_IDS: &[(u16, &[u8; 2], &[u8; 2])] = &[
 fn expect_ids(rt: &impl Abort, node: &mut Node<1>, first: &[u8; 2], second: &[u8; 2]) {
     let mut out = ArrayVec::new();
     let fred = fred(rt, b"");
-    node.ask(at(rt, 2_005), &fred, Kind::Unique, 60, &mut out)
+    node.ask(at(rt, 2_005), &fred.lend(), Kind::Unique, 60, &mut out)
         .expect(rt, "ask");
     expect_in(rt, &first, out.as_slice().starts_with(first));
-    node.resolve(at(rt, 2_005), &fred, &mut out)
+    node.resolve(at(rt, 2_005), &fred.lend(), &mut out)
         .expect(rt, "resolve");
     expect_in(rt, &second, out.as_slice().starts_with(second));
 }

@@ -360,17 +360,20 @@ fn asked_and_renewed<R: Abort + AllocGlobal>(
         }
     }
     sent_all(rt, port, &[REQUEST, STATUS_REPLY, REFRESHING]).expect(rt, "sent");
-    let held = node.holds(Moment::new(149_877).expect(rt, "a moment"), &want.name);
+    let held = node.holds(
+        Moment::new(149_877).expect(rt, "a moment"),
+        &want.name.lend(),
+    );
     expect_eq(rt, &held, &Some(Kind::Unique));
 }
 
 /// It is asking: it doesn't hold the name, and asks for it again at 65,000 alone.
 fn expect_asking<R: Abort>(rt: &R, node: &mut Node<2>, want: &Want, out: &mut ArrayVec<u8, 576>) {
     let then = Moment::new(60_000).expect(rt, "a moment");
-    expect_eq(rt, &node.holds(then, &want.name), &None);
+    expect_eq(rt, &node.holds(then, &want.name.lend()), &None);
     expect_eq(
         rt,
-        &node.ask(then, &want.name, want.kind, 60, out),
+        &node.ask(then, &want.name.lend(), want.kind, 60, out),
         &Err(AskFault::Busy),
     );
     expect_eq(
@@ -451,12 +454,18 @@ fn goes_on<R: Abort + AllocGlobal>(
     expect_eq_in(rt, &call, &failed, &Err(Device));
     expect_eq_in(rt, &call, &port.failures(), &1);
     // Before the grant has come it doesn't hold the name, and after it no failure loses it.
-    let holds = node.holds(Moment::new(100_000).expect(rt, "a moment"), &want.name);
+    let holds = node.holds(
+        Moment::new(100_000).expect(rt, "a moment"),
+        &want.name.lend(),
+    );
     expect_eq_in(rt, &call, &holds.is_some(), &(call >= 2));
     let went_on = four_turns(rt, port, clock, node, want);
     expect_eq_in(rt, &call, &went_on, &Ok(()));
     expect_eq_in(rt, &call, &port.failures(), &1);
-    let held = node.holds(Moment::new(149_877).expect(rt, "a moment"), &want.name);
+    let held = node.holds(
+        Moment::new(149_877).expect(rt, "a moment"),
+        &want.name.lend(),
+    );
     expect_eq_in(rt, &call, &held, &Some(Kind::Unique));
     sent_all(rt, port, sent).expect(rt, "sent")
 }

@@ -7,7 +7,7 @@ returns-else-not-is_next-clause-sending c = record {
   moves = λ node own_is id_is life_is.
       rw (c.in-Asking.is, c.again.ensures, c.claim.ensures.value, ← own_is, ← id_is)
       (asks_again c.in-Asking.kind c.in-Asking.ttl _ c.in-Asking.pending (sym c.if-not-is_next.ensures));
-  name_is = c.lend.ensures;
+  name_is = c.copy.ensures;
   numbers = c.claim.ensures.whole;
   fits = tt;
   rows_fit = tt;
@@ -18,7 +18,7 @@ returns-else-not-is_next-2-clause-sending c = record {
   moves = λ node own_is id_is life_is.
       rw (c.in-Releasing.is, c.again-in-Releasing.ensures, c.release.ensures.value, ← own_is, ← id_is)
       (gives_back_again c.in-Releasing.kind _ c.in-Releasing.pending (sym c.if-not-is_next-2.ensures));
-  name_is = c.lend-in-Releasing.ensures;
+  name_is = c.copy-in-Releasing.ensures;
   numbers = c.release.ensures.whole;
   fits = rw c.release.ensures.value tt;
   rows_fit = rw c.release.ensures.value tt;
@@ -34,7 +34,7 @@ pub returns-in-Some-clause-sending : goal.returns-in-Some-clause-sending
 returns-in-Some-clause-sending c = record {
   moves = λ node own_is id_is life_is.
       rw (c.claim-in-Held.ensures.value, c.in-Held.is, ← own_is) (c.in-Some.ensures.moves node c.args.name.now c.in-Held.kind c.in-Held.ttl c.in-Held.until id_is life_is);
-  name_is = c.lend-in-Held.ensures;
+  name_is = c.copy-in-Held.ensures;
   numbers = c.claim-in-Held.ensures.whole;
   fits = tt;
   rows_fit = tt;

@@ -16,7 +16,7 @@ returns g c =
     let names_are : c.as_slice.result.now ≡ names_listed old c.args.now c.args.name.now =
     c.as_slice.ensures.value
     ∙ c.listed-names.ensures.names
-    ∙ rw c.scope.ensures.value (ap (λ (n : NodeValue). flat_map (listed c.args.name.now.scope) n.slots) (c.self.view_is ∙ c.settle.ensures.node))
+    ∙ ap (λ (n : NodeValue). flat_map (listed c.args.name.now.scope) n.slots) (c.self.view_is ∙ c.settle.ensures.node)
     in (
       Some (status c.args.id c.args.name.now (names_listed old c.args.now c.args.name.now)),
       lists_names c.settle.new.self (sym c.if-not-is_listed_for.ensures) c.settle.ensures.node,

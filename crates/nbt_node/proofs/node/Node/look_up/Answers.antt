@@ -15,8 +15,8 @@ returns g c =
     let opened : Lookup = record { id = old.next_id; name = c.args.name.now; to = c.args.to; wanted = c.args.wanted; tries = 1; due = next_due c.args.now } in
     let mid_is = c.self.view_is ∙ c.settle.ensures.node in
     let id_is : c.self.inside.next_id ≡ old.next_id = ap (λ (n : NodeValue). n.next_id) mid_is in
-    let asked : message_of c.question.result ≡ question opened = c.question.ensures.value ∙ rw (c.copy.ensures, id_is) refl in
+    let asked : message_of c.question.result ≡ question opened = c.question.ensures.value ∙ rw (c.to_name.ensures, id_is) refl in
     record {
-      opens = looks_up old _ _ c.args.now (Some opened) (id_after old.next_id) mid_is (rw (c.copy.ensures, c.next_due.ensures, c.id_after-self-inside.ensures, id_is) refl);
+      opens = looks_up old _ _ c.args.now (Some opened) (id_after old.next_id) mid_is (rw (c.to_name.ensures, c.next_due.ensures, c.id_after-self-inside.ensures, id_is) refl);
       written = subst (λ (m : MessageValue). AreWritten (Some m) c.write.new.out.items) asked c.write.ensures;
     }

@@ -20,4 +20,4 @@ returns-in-Some-clause-ok g c =
     in
     let server_is : c.self-in-Some.inside.server ≡ old.server = ap (λ (n : NodeValue). n.server) (c.self-in-Some.view_is ∙ c.change.ensures.node) in
     rw server_is
-    (polls_sending old c.change.new.self c.args.now kept c.in-Some.sending c.written-name.new.out.items c.change.ensures.apart due sends (rw c.written-name.ensures.kept at c.change.ensures.node) c.written-name.ensures.written)
+    (polls_sending old c.change.new.self c.args.now kept c.in-Some.sending c.written-name.new.out.items c.change.ensures.apart due sends (rw (c.lend.ensures, c.written-name.ensures.kept) at c.change.ensures.node) c.written-name.ensures.written)

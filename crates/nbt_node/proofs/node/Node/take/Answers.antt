@@ -12,22 +12,21 @@ returns-in-Registered g c =
     let old : NodeValue = c.args.self.now in
     let r : Registration = c.in-Registered.registration in
     let seconds : granted old.config.longest r.ttl ≡ c.granted-seconds.result = sym (c.granted-seconds.ensures.value ∙ ap (λ (n : NodeValue). granted n.config.longest r.ttl) c.self.view_is) in
-    let name = c.to_name-name.result in
-    let move = rw c.state_at-state.ensures at (c.on_registered-outcome.ensures old c.args.now name (record r { name = name }) refl seconds) in
-    (None, rw (c.in-Registered.is, ← c.to_name-name.ensures) (c.hear.ensures _ move), c.requires.empty)
+    let move = rw c.state_at-state.ensures at (c.on_registered-outcome.ensures old c.args.now r.name r refl seconds) in
+    (None, rw c.in-Registered.is (c.hear.ensures _ move), c.requires.empty)
 
 pub returns-in-Released : goal.returns-in-Released
 returns-in-Released g c =
-    let move = rw c.state_at-state-in-Released.ensures at (c.on_released-outcome.ensures c.args.self.now c.args.now c.to_name-name-in-Released.result c.to_name-name-in-Released.result c.in-Released.kind c.in-Released.addr) in
-    (None, rw (c.in-Released.is, ← c.to_name-name-in-Released.ensures) (c.hear-in-Released.ensures _ move), c.requires.empty)
+    let move = rw c.state_at-state-in-Released.ensures at (c.on_released-outcome.ensures c.args.self.now c.args.now c.in-Released.name c.in-Released.name c.in-Released.kind c.in-Released.addr) in
+    (None, rw c.in-Released.is (c.hear-in-Released.ensures _ move), c.requires.empty)
 
 pub returns-in-Wait : goal.returns-in-Wait
 returns-in-Wait g c =
-    let move = rw c.state_at-state-in-Wait.ensures at (c.on_wait-outcome.ensures c.args.self.now c.to_name-name-in-Wait.result c.to_name-name-in-Wait.result) in
-    (None, rw (c.in-Wait.is, ← c.to_name-name-in-Wait.ensures) (c.hear-in-Wait.ensures _ move), c.requires.empty)
+    let move = rw c.state_at-state-in-Wait.ensures at (c.on_wait-outcome.ensures c.args.self.now c.in-Wait.name c.in-Wait.name) in
+    (None, rw c.in-Wait.is (c.hear-in-Wait.ensures _ move), c.requires.empty)
 
 pub returns-in-StatusRequest : goal.returns-in-StatusRequest
-returns-in-StatusRequest g c = (c.list_names.ensures.0, rw c.in-StatusRequest.is (rw c.to_name.ensures at c.list_names.ensures.1), c.list_names.ensures.2)
+returns-in-StatusRequest g c = (c.list_names.ensures.0, rw c.in-StatusRequest.is c.list_names.ensures.1, c.list_names.ensures.2)
 
 pub returns-in-Found : goal.returns-in-Found
 returns-in-Found g c =
