@@ -3,7 +3,7 @@
 use crate::end_node::{EndNode, NameServer, receive, send};
 use crate::outcome::Outcome;
 use arrayvec::ArrayVec;
-use nbt_dgram::{Accept, Delivery, Fragments, accept, encode, split};
+use nbt_dgram::{Accept, Delivery, Fragments, Reassembly, accept, encode, split};
 use nbt_name::{Addr, Name};
 use nbt_port::{Device, Port};
 
@@ -30,8 +30,8 @@ pub fn send_data<P: Port + Drop>(
         Delivery::DirectUnique,
         ID,
         own,
-        source,
-        destination,
+        &source.lend(),
+        &destination.lend(),
         payload,
     ) else {
         return Ok(Outcome::Nothing);
@@ -79,8 +79,17 @@ fn accept_one<P: Port + Drop>(
     let mut out = ArrayVec::new();
     let now = server.now();
     let own = end.datagrams_at;
-    match accept(&mut end.joiner, now, &end.node, own, octets, &mut out) {
-        Accept::Up(_, payload) => Ok(Some(payload.as_slice().len())),
+    let mut room = Reassembly::new();
+    match accept(
+        &mut end.joiner,
+        now,
+        &end.node,
+        own,
+        octets,
+        &mut room,
+        &mut out,
+    ) {
+        Accept::Up(_, payload) => Ok(Some(payload.len())),
         Accept::Reply(to) => {
             send(&mut end.datagrams, to, out.as_slice())?;
             Ok(None)

@@ -14,7 +14,7 @@ use crate::ends::CAddr;
 use crate::held::{CJoiner, CNode};
 use crate::name::CName;
 use crate::results::NO_MOMENT;
-use nbt_dgram::{Accept, Joiner, accept};
+use nbt_dgram::{Accept, Joiner, Reassembly, accept};
 use nbt_lease::Moment;
 use nbt_name::Addr;
 use nbt_node::Node;
@@ -48,9 +48,9 @@ impl CAccept {
             Accept::Nothing => self.kind = 0,
             Accept::Up(names, payload) => {
                 self.kind = 1;
-                self.source = CName::of(&names.source);
-                self.destination = CName::of(&names.destination);
-                self.size = payload.as_slice().len();
+                self.source.store(&Some(names.source.copy()));
+                self.destination.store(&Some(names.destination.copy()));
+                self.size = payload.len();
             }
             Accept::Reply(to) => {
                 self.kind = 2;
@@ -71,7 +71,7 @@ fn put_data(outcome: &Accept<'_>, data: &mut [u8])
     ensures { PutsMost (data_of (accept_of outcome.now)) data.old data.new }
 {
     match outcome {
-        Accept::Up(_, payload) => put_most(payload.as_slice(), data),
+        Accept::Up(_, payload) => put_most(payload, data),
         _ => put_most(&[], data),
     }
 }
@@ -121,7 +121,8 @@ fn hand(
         put_data(&Accept::Nothing, data);
         return NO_MOMENT;
     };
-    let outcome = accept(joiner, now, node, own, octets, out);
+    let mut room = Reassembly::new();
+    let outcome = accept(joiner, now, node, own, octets, &mut room, out);
     told.report(&outcome);
     put_data(&outcome, data);
     0

@@ -68,20 +68,20 @@ impl CDgram {
                 self.size = fragment.payload.len();
             }
             Body::Error(code) => self.code = *code,
-            Body::Lookup(_, name) => self.destination = CName::of(name),
+            Body::Lookup(_, name) => self.destination.store(&Some(name.copy())),
         }
     }
 
     /// Reports where a fragment stands, and its names.
-    fn report_part(&mut self, part: &Part)
+    fn report_part(&mut self, part: &Part<'_>)
         ensures { self.new ≡ with_part self.old part.now }
     {
         match part {
             Part::First(names) => {
                 self.first = true;
                 self.offset = 0;
-                self.source = CName::of(&names.source);
-                self.destination = CName::of(&names.destination);
+                self.source.store(&Some(names.source.copy()));
+                self.destination.store(&Some(names.destination.copy()));
             }
             Part::Later(offset) => {
                 self.first = false;
@@ -92,7 +92,7 @@ impl CDgram {
 }
 
 /// How many octets a fragment's names have.
-fn names_size(part: &Part) -> usize
+fn names_size(part: &Part<'_>) -> usize
     ensures value { result ≡ length (names_text part.now) }
     ensures bound { result ≤ 510 }
 {

@@ -4,7 +4,7 @@ ghost use Rattle.std.specs.Prelude.{◌≡◌, List, ℕ};
 ghost use Rattle.nbt_packet.specs.Message.{message_if};
 ghost use Rattle.nbt_node.specs.Answering.{sent_back};
 ghost use Rattle.nbt_node.specs.Moves.{told_of};
-ghost use Rattle.nbt_c.specs.Events.{event_with, event_for, lent_by, rcode_in, about, stored_if, octets_back, reported};
+ghost use Rattle.nbt_c.specs.Events.{event_with, event_for, lent_by, rcode_in, about, octets_back, reported};
 
 use crate::buffer::Octets;
 use crate::name::CName;
@@ -32,43 +32,34 @@ pub struct CEvent {
 }
 
 impl CEvent {
-    /// An event of a kind, with what its kind names, and with what a message says.
-    fn new(kind: u8, cut: bool, seconds: u32, size: usize, message: &Option<Message<'_>>) -> CEvent
-        ensures { result ≡ event_with kind cut seconds size (message_if message.now) }
+    /// Becomes an event of a kind, with what its kind names, and with what a message says.
+    fn set(&mut self, kind: u8, cut: bool, seconds: u32, size: usize, message: &Option<Message<'_>>)
+        ensures { self.new ≡ event_with kind cut seconds size (message_if message.now) }
     {
-        CEvent {
-            kind,
-            rcode: rcode_in(message),
-            cut,
-            seconds,
-            size,
-            name: name_in(message),
-        }
+        self.kind = kind;
+        self.rcode = rcode_in(message);
+        self.cut = cut;
+        self.seconds = seconds;
+        self.size = size;
+        self.name.store(&about(message));
     }
 
     /// Becomes what the node reports of a message.
     pub(crate) fn report(&mut self, told: &Event<'_>, message: &Option<Message<'_>>)
         ensures { self.new ≡ event_for (told_of told.now) (message_if message.now) }
     {
-        *self = CEvent::of(told, message);
-    }
-
-    /// What the node reports of a message.
-    fn of(told: &Event<'_>, message: &Option<Message<'_>>) -> CEvent
-        ensures { result ≡ event_for (told_of told.now) (message_if message.now) }
-    {
         match told {
-            Event::Nothing => CEvent::new(0, false, 0, 0, &None),
-            Event::Reply => CEvent::new(1, false, 0, 0, message),
-            Event::Granted(seconds) => CEvent::new(2, false, *seconds, 0, message),
-            Event::Renewed(seconds) => CEvent::new(3, false, *seconds, 0, message),
-            Event::Refused(_) => CEvent::new(4, false, 0, 0, message),
-            Event::Lost => CEvent::new(5, false, 0, 0, message),
-            Event::Freed(_) => CEvent::new(6, false, 0, 0, message),
-            Event::Wait => CEvent::new(7, false, 0, 0, message),
-            Event::Found { entries, cut } => CEvent::new(8, *cut, 0, entries.len(), message),
-            Event::NotFound => CEvent::new(9, false, 0, 0, message),
-            Event::Status(names) => CEvent::new(10, false, 0, names.len(), message),
+            Event::Nothing => self.set(0, false, 0, 0, &None),
+            Event::Reply => self.set(1, false, 0, 0, message),
+            Event::Granted(seconds) => self.set(2, false, *seconds, 0, message),
+            Event::Renewed(seconds) => self.set(3, false, *seconds, 0, message),
+            Event::Refused(_) => self.set(4, false, 0, 0, message),
+            Event::Lost => self.set(5, false, 0, 0, message),
+            Event::Freed(_) => self.set(6, false, 0, 0, message),
+            Event::Wait => self.set(7, false, 0, 0, message),
+            Event::Found { entries, cut } => self.set(8, *cut, 0, entries.len(), message),
+            Event::NotFound => self.set(9, false, 0, 0, message),
+            Event::Status(names) => self.set(10, false, 0, names.len(), message),
         }
     }
 }
@@ -85,28 +76,18 @@ fn rcode_in(message: &Option<Message<'_>>) -> u8
     }
 }
 
-/// The name that a message is about, if there is one, for C.
-fn name_in(message: &Option<Message<'_>>) -> CName
-    ensures { result ≡ stored_if (about (message_if message.now)) }
+/// The name that a message is about, if there is one.
+fn about<'a>(message: &Option<Message<'a>>) -> Option<LentName<'a>>
+    ensures { result ≡ about (message_if message.now) }
 {
     match message {
-        Some(message) => stored_if(about(message)),
-        None => CName::none(),
+        Some(message) => name_in(message),
+        None => None,
     }
 }
 
-/// A name for C, or none.
-fn stored_if(name: Option<LentName<'_>>) -> CName
-    ensures { result ≡ stored_if name.entry }
-{
-    match name {
-        Some(name) => CName::of(&name.to_name()),
-        None => CName::none(),
-    }
-}
-
-/// The name that a message is about, if there is one.
-fn about<'a>(message: &Message<'a>) -> Option<LentName<'a>>
+/// The same of a message that there is.
+fn name_in<'a>(message: &Message<'a>) -> Option<LentName<'a>>
     ensures { result ≡ about (message_if (Some message.now)) }
 {
     match message {

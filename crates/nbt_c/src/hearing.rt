@@ -159,10 +159,10 @@ fn holds(node: &Node<14>, now: u64, name: &CName, held: &mut u8) -> u8
     let Some(now) = Moment::new(now) else {
         return NO_MOMENT;
     };
-    let Some(name) = name.read() else {
+    let Some(name) = name.lend() else {
         return NO_NAME;
     };
-    *held = held_number(node.holds(now, &name.lend()));
+    *held = held_number(node.holds(now, &name));
     0
 }
 
@@ -193,10 +193,10 @@ fn stands(node: &Node<14>, now: u64, name: &CName, state: &mut u8) -> u8
     let Some(now) = Moment::new(now) else {
         return NO_MOMENT;
     };
-    let Some(name) = name.read() else {
+    let Some(name) = name.lend() else {
         return NO_NAME;
     };
-    let Some(standing) = node.standing(now, &name.lend()) else {
+    let Some(standing) = node.standing(now, &name) else {
         return ClockBack.number();
     };
     *state = standing_number(standing);

@@ -3,8 +3,7 @@
 ghost use Rattle.std.specs.Prelude.{◌≡◌, ◌≤◌, length, IfSome, IfNone};
 ghost use Rattle.nbt_c.specs.Names.{filled_scope};
 
-use nbt_name::Name;
-use nbt_text::with_octets;
+use nbt_name::{LentName, Name};
 
 /// The most octets of a scope (RFC 1002 section 4.1).
 const SCOPE_MOST: usize = 221;
@@ -26,8 +25,8 @@ impl CName {
     ghost use Rattle.nbt_c.specs.Events.{stored_if};
     ghost use Rattle.nbt_c.specs.Names.{HoldsName, name_in, stored};
 
-    /// The name that is held; `None` where `scope_size` is above 221, or the scope is no row of labels.
-    pub(crate) fn read(&self) -> Option<Name>
+    /// The name that is held, lent; `None` where `scope_size` is above 221, or the scope is no row of labels.
+    pub(crate) fn lend(&self) -> Option<LentName<'_>>
         ensures read { IfSome result (λ name. HoldsName self.now × (name ≡ name_in self.now)) }
         ensures none { IfNone result (¬ HoldsName self.now) }
     {
@@ -35,14 +34,30 @@ impl CName {
         if size > SCOPE_MOST {
             return None;
         }
-        match Name::any(&self.scope[..size]) {
-            Ok(scoped) => Some(with_octets(&self.octets, &scoped)),
-            Err(_) => None,
+        LentName::new(&self.octets, &self.scope[..size]).ok()
+    }
+
+    /// The same name, which borrows nothing.
+    pub(crate) fn read(&self) -> Option<Name>
+        ensures read { IfSome result (λ name. HoldsName self.now × (name ≡ name_in self.now)) }
+        ensures none { IfNone result (¬ HoldsName self.now) }
+    {
+        let name = self.lend()?;
+        Some(name.to_name())
+    }
+
+    /// Becomes this name; without one, zeros.
+    pub(crate) fn store(&mut self, name: &Option<LentName<'_>>)
+        ensures { self.new ≡ stored_if name.now }
+    {
+        match name {
+            Some(name) => *self = CName::of(&name.to_name()),
+            None => *self = CName::none(),
         }
     }
 
     /// No name: zeros.
-    pub(crate) fn none() -> CName
+    fn none() -> CName
         ensures { result ≡ stored_if None }
     {
         CName {

@@ -94,13 +94,13 @@ fn ask(node: &mut Node<14>, now: u64, name: &CName, kind: u8, ttl: u32, out: &mu
     let Some(now) = Moment::new(now) else {
         return NO_MOMENT;
     };
-    let Some(name) = name.read() else {
+    let Some(name) = name.lend() else {
         return NO_NAME;
     };
     let Some(kind) = kind_of(kind) else {
         return NO_KIND;
     };
-    match node.ask(now, &name.lend(), kind, ttl, out) {
+    match node.ask(now, &name, kind, ttl, out) {
         Ok(()) => 0,
         Err(fault) => fault.number(),
     }
@@ -138,10 +138,10 @@ fn release(node: &mut Node<14>, now: u64, name: &CName, out: &mut Octets) -> u8
     let Some(now) = Moment::new(now) else {
         return NO_MOMENT;
     };
-    let Some(name) = name.read() else {
+    let Some(name) = name.lend() else {
         return NO_NAME;
     };
-    match node.release(now, &name.lend(), out) {
+    match node.release(now, &name, out) {
         Ok(()) => 0,
         Err(fault) => fault.number(),
     }
@@ -176,10 +176,10 @@ fn resolve(node: &mut Node<14>, now: u64, name: &CName, out: &mut Octets) -> u8
     let Some(now) = Moment::new(now) else {
         return NO_MOMENT;
     };
-    let Some(name) = name.read() else {
+    let Some(name) = name.lend() else {
         return NO_NAME;
     };
-    match node.resolve(now, &name.lend(), out) {
+    match node.resolve(now, &name, out) {
         Ok(()) => 0,
         Err(fault) => fault.number(),
     }
@@ -214,10 +214,10 @@ fn ask_status(node: &mut Node<14>, now: u64, to: Addr, name: &CName, out: &mut O
     let Some(now) = Moment::new(now) else {
         return NO_MOMENT;
     };
-    let Some(name) = name.read() else {
+    let Some(name) = name.lend() else {
         return NO_NAME;
     };
-    match node.name_status(now, to, &name.lend(), out) {
+    match node.name_status(now, to, &name, out) {
         Ok(()) => 0,
         Err(fault) => fault.number(),
     }

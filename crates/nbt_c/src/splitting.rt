@@ -62,10 +62,10 @@ fn cut(
 {
     first.clear();
     second.clear();
-    let Some(source) = source.read() else {
+    let Some(source) = source.lend() else {
         return NO_NAME;
     };
-    let Some(destination) = destination.read() else {
+    let Some(destination) = destination.lend() else {
         return NO_NAME;
     };
     let Some(delivery) = delivery_of(kind) else {

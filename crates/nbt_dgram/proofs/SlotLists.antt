@@ -11,13 +11,14 @@ use Rattle.std.proofs.lemmas.List.Quantifiers.{position-Some}
 use Rattle.std.proofs.lemmas.Option.{get_or_from_slice_get, slice_get-get_or, slice_get_within}
 use Rattle.nbt_dgram.specs.declared.slot.Key.{Key}
 use Rattle.nbt_dgram.specs.declared.slot.Slot.{Slot}
-use Rattle.nbt_dgram.specs.declared.joined.Joined.{Joined}
-use Rattle.nbt_dgram.specs.declared.joined.Joined.TheVariants as results
+use Rattle.nbt_dgram.specs.declared.joined.Step.{Step}
+use Rattle.nbt_dgram.specs.declared.joined.Step.TheVariants as results
+use Rattle.nbt_dgram.specs.declared.reassembly.Reassembly.{Reassembly}
 use Rattle.nbt_dgram.specs.Dgram.{FragmentValue}
 use Rattle.nbt_dgram.specs.Fragments.{begin_of, end_of}
 use Rattle.nbt_dgram.specs.Slot.{fresh, joined}
-use Rattle.nbt_dgram.specs.Joiner.{JoinedValue, waiting, joined_of, is_of, emptied, Joins, no_room, begins, conflicts, waits, completes}
-use Rattle.nbt_dgram.specs.Inner.Joining.{HasRoom, JoinsSlot, disagrees, unfinished, finished, IsTaken, JoinsAt, Begins, no_place, in_place}
+use Rattle.nbt_dgram.specs.Joiner.{JoinedValue, waiting, is_of, emptied, Joins, no_room, begins, conflicts, waits, completes}
+use Rattle.nbt_dgram.specs.Inner.Joining.{led_to, HasRoom, JoinsSlot, disagrees, unfinished, finished, IsTaken, JoinsAt, Begins, no_place, in_place}
 use Rattle.nbt_dgram.proofs.Marks.{nothing_room, written-length}
 
 -- ---- a loop that writes f over each element
@@ -128,9 +129,9 @@ join_at_room slots after place f outcome fits rooms at =
     new_room old _ _ (finished names payload agrees is) room = joined_room f old fits room
 
 -- what is not `Waiting` doesn't mean it
-pub not_waiting : (j : Joined) → (j ≡ results.Waiting → ⊥) → joined_of j ≡ waiting → ⊥
-not_waiting results.Waiting not e = not refl
-not_waiting _ not e = absurd cc
+pub not_waiting : (step : Step) (room : Reassembly) → (step ≡ results.Waiting → ⊥) → led_to step room ≡ waiting → ⊥
+not_waiting results.Waiting room not e = not refl
+not_waiting _ room not e = absurd cc
 
 -- slots that are all free
 pub all_free : (slots : List (Option Slot)) (n : ℕ) → length slots ≡ n → All (λ slot. slot ≡ None) slots → slots ≡ replicate n None

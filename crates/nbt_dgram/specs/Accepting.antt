@@ -14,7 +14,7 @@ use Rattle.nbt_dgram.specs.declared.outcome.Accept.{Accept}
 use Rattle.nbt_dgram.specs.declared.outcome.Accept.TheVariants as m
 use Rattle.nbt_dgram.specs.Dgram.{FragmentValue, fragment, error, lookup, DgramValue, DgramIs, FaultIs}
 use Rattle.nbt_dgram.specs.Text.{text}
-use Rattle.nbt_dgram.specs.Joiner.{JoinedValue, whole, waiting, dropped, octets_of, JoinerValue, Puts}
+use Rattle.nbt_dgram.specs.Joiner.{JoinedValue, whole, waiting, dropped, JoinerValue, Puts}
 
 pub data AcceptValue : Type 0 where
   up : Names → List ℕ → AcceptValue
@@ -24,7 +24,7 @@ pub data AcceptValue : Type 0 where
   nothing : AcceptValue
 
 abbrev pub accept_of : Accept → AcceptValue
-accept_of (m.Up names payload) = up names (octets_of payload)
+accept_of (m.Up names payload) = up names payload.now
 accept_of (m.Reply to) = reply to
 accept_of (m.Error id code) = told id code
 accept_of m.Waiting = waits

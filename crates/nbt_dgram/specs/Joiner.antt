@@ -9,8 +9,6 @@ use Rattle.nbt_dgram.specs.declared.joined.Dropped.{Dropped}
 use Rattle.nbt_dgram.specs.declared.joined.Dropped.TheVariants as reasons
 use Rattle.nbt_dgram.specs.declared.joined.Joined.{Joined}
 use Rattle.nbt_dgram.specs.declared.joined.Joined.TheVariants as m
-use Rattle.nbt_dgram.specs.declared.joined.Payload.{Payload}
-use Rattle.nbt_dgram.specs.declared.joined.Payload.TheVariants as payloads
 use Rattle.nbt_dgram.specs.Dgram.{FragmentValue, fragment, DgramValue}
 use Rattle.nbt_dgram.specs.Fragments.{end_of}
 use Rattle.nbt_dgram.specs.Slot.{fresh, Agrees, joined, IsWhole}
@@ -21,12 +19,8 @@ pub data JoinedValue : Type 0 where
   waiting : JoinedValue
   dropped : Dropped → JoinedValue
 
-abbrev pub octets_of : Payload → List ℕ
-octets_of (payloads.Lent octets) = octets.now
-octets_of (payloads.Joined octets) = octets.items
-
 abbrev pub joined_of : Joined → JoinedValue
-joined_of (m.Whole names payload) = whole names (octets_of payload)
+joined_of (m.Whole names payload) = whole names payload.now
 joined_of m.Waiting = waiting
 joined_of (m.Dropped reason) = dropped reason
 

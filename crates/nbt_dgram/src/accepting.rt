@@ -3,17 +3,18 @@
 ghost use Rattle.std.specs.Prelude.{◌≡◌, []};
 ghost use Rattle.nbt_dgram.specs.declared.msg_type.Delivery.TheVariants.{Broadcast};
 ghost use Rattle.nbt_dgram.specs.Dgram.{fragment, dgram_of};
-ghost use Rattle.nbt_dgram.specs.Joiner.{whole, octets_of, IsData};
+ghost use Rattle.nbt_dgram.specs.Joiner.{whole, IsData};
 ghost use Rattle.nbt_dgram.specs.Text.{text};
 ghost use Rattle.nbt_dgram.specs.Accepting.{accept_of, Accepts, Hands, not_present};
 ghost use Rattle.nbt_dgram.specs.Inner.Accepting.{PutsUp};
 
 use crate::decoding::decode;
 use crate::dgram::{Body, Dgram, Names};
-use crate::joined::{Joined, Payload};
+use crate::joined::Joined;
 use crate::joiner::Joiner;
 use crate::msg_type::Delivery;
 use crate::outcome::Accept;
+use crate::reassembly::Reassembly;
 use crate::writing::encode;
 use arrayvec::ArrayVec;
 use nbt_lease::Moment;
@@ -35,13 +36,14 @@ const NOT_PRESENT: u8 = 0x82;
 /// - `Nothing` for all else: what `decode` refuses (its faults 1 to 8), what `Joiner::put` drops (1 to 4), a whole one for
 ///   a group that isn't held, and any other type. Only 0x10 and 0x11 are put to the joiner, so nothing else changes it.
 ///
-/// `out` is empty but for `Reply`. RFC 1002 section 5.3.3, in our profile's choice.
+/// What is put together from fragments stands in `room`, which lends it. `out` is empty but for `Reply`. RFC 1002 section 5.3.3, in our profile's choice.
 pub fn accept<'a, const S: usize, const N: usize>(
     joiner: &mut Joiner<S>,
     now: Moment,
     node: &Node<N>,
     own: Addr,
     octets: &'a [u8],
+    room: &'a mut Reassembly,
     out: &mut ArrayVec<u8, 576>,
 ) -> Accept<'a>
     ensures { Accepts joiner.old now node.now own octets.now (accept_of result) out.new.items joiner.new }
@@ -51,7 +53,16 @@ pub fn accept<'a, const S: usize, const N: usize>(
         return Accept::Nothing;
     };
     match &dgram.body {
-        Body::Fragment(fragment) => put_up(joiner, now, node, own, &dgram, fragment.delivery, out),
+        Body::Fragment(fragment) => put_up(
+            joiner,
+            now,
+            node,
+            own,
+            &dgram,
+            fragment.delivery,
+            room,
+            out,
+        ),
         Body::Error(code) => Accept::Error(dgram.id, *code),
         Body::Lookup(_, _) => Accept::Nothing,
     }
@@ -65,6 +76,7 @@ fn put_up<'a, const S: usize, const N: usize>(
     own: Addr,
     dgram: &Dgram<'a>,
     delivery: Delivery,
+    room: &'a mut Reassembly,
     out: &mut ArrayVec<u8, 576>,
 ) -> Accept<'a>
     requires body { IsData (dgram_of dgram.now) }
@@ -75,7 +87,7 @@ fn put_up<'a, const S: usize, const N: usize>(
     if delivery.is(Delivery::Broadcast) {
         return Accept::Nothing;
     }
-    match joiner.put(now, dgram) {
+    match joiner.put(now, dgram, room) {
         Joined::Whole(names, payload) => {
             hand_up(now, node, own, dgram, delivery, names, payload, out)
         }
@@ -91,15 +103,15 @@ fn hand_up<'a, const N: usize>(
     own: Addr,
     dgram: &Dgram<'_>,
     delivery: Delivery,
-    names: Names,
-    payload: Payload<'a>,
+    names: Names<'a>,
+    payload: &'a [u8],
     out: &mut ArrayVec<u8, 576>,
 ) -> Accept<'a>
     requires { out.old.items ≡ [] }
-    ensures { Hands node.now now own (dgram_of dgram.now) delivery (whole names (octets_of payload.entry))
+    ensures { Hands node.now now own (dgram_of dgram.now) delivery (whole names.entry payload.now)
         (accept_of result) out.new.items }
 {
-    if node.holds(now, &names.destination.lend()).is_some() {
+    if node.holds(now, &names.destination).is_some() {
         return Accept::Up(names, payload);
     }
     if !delivery.is(Delivery::DirectUnique) {

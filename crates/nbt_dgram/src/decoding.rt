@@ -12,7 +12,7 @@ ghost use Rattle.nbt_dgram.specs.Dgram.{DgramValue, IsTypeAt, FragmentAt, BodyAt
 use crate::dgram::{Body, Dgram, Fragment, Names, Part};
 use crate::fault::{DgramFault, DgramFaultKind};
 use crate::msg_type::{Delivery, Lookup, MsgType};
-use nbt_name::{Addr, Name, NameFault, NameFaultKind, read_long, read_plain, read_word};
+use nbt_name::{Addr, LentName, NameFault, NameFaultKind, find_plain, read_long, read_word};
 
 /// How many octets each datagram begins with: up to SOURCE_PORT.
 const HEAD: usize = 10;
@@ -103,7 +103,7 @@ fn body_at(octets: &[u8], msg_type: MsgType) -> Result<(Body<'_>, usize), DgramF
         }
         MsgType::Error => Ok((Body::Error(octets[HEAD]), HEAD + 1)),
         MsgType::Lookup(lookup) => {
-            let (name, end) = read_plain(octets, HEAD)?;
+            let (name, end) = find_plain(octets, HEAD)?;
             Ok((Body::Lookup(lookup, name), end))
         }
     }
@@ -176,7 +176,7 @@ fn has_more(octets: &[u8]) -> bool
 }
 
 /// Where a fragment stands, with its names where it is the first, and the place after them.
-fn part_at(octets: &[u8], first: bool, offset: u16) -> Result<(Part, usize), DgramFault>
+fn part_at(octets: &[u8], first: bool, offset: u16) -> Result<(Part<'_>, usize), DgramFault>
     requires { 14 ≤ length octets.now }
     ensures part { IfOk result (λ read. IsReadPart octets.now first offset read.0 read.1) }
     ensures fault { IfErr result (λ fault. (first ≡ true) × NamesFault octets.now fault) }
@@ -195,13 +195,13 @@ fn part_at(octets: &[u8], first: bool, offset: u16) -> Result<(Part, usize), Dgr
 }
 
 /// A plain name within the octets that DGM_LENGTH counts.
-fn name_at(octets: &[u8], place: usize) -> Result<(Name, usize), DgramFault>
+fn name_at(octets: &[u8], place: usize) -> Result<(LentName<'_>, usize), DgramFault>
     requires { place ≤ length octets.now }
     ensures name { IfOk result (λ read. PlainNameAt octets.now place read.0 read.1) }
     ensures fault { IfErr result (NameFaultAt octets.now place) }
     ensures within { IfOk result (λ read. read.1 ≤ length octets.now) }
 {
-    match read_plain(octets, place) {
+    match find_plain(octets, place) {
         Ok(read) => Ok(read),
         Err(fault) => Err(fault_within(fault)),
     }

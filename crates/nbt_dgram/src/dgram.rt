@@ -29,20 +29,20 @@ ghost use Rattle.nbt_dgram.specs.Joiner.{IsData};
 ghost use Rattle.nbt_dgram.specs.Text.{offset_of, names_text, Fits};
 
 use crate::msg_type::{Delivery, Lookup, MsgType};
-use nbt_name::{Addr, Name};
+use nbt_name::{Addr, LentName};
 
 /// Who sends a datagram, and whom it is for.
-#[derive(Debug, PartialEq, Eq, Drop)]
-pub struct Names {
+#[derive(Debug, Drop)]
+pub struct Names<'a> {
     /// SOURCE_NAME.
-    pub source: Name,
+    pub source: LentName<'a>,
     /// DESTINATION_NAME.
-    pub destination: Name,
+    pub destination: LentName<'a>,
 }
 
-impl Names {
-    /// Equal names.
-    pub fn copy(&self) -> Names
+impl<'a> Names<'a> {
+    /// The same names, lent once more.
+    pub fn copy(&self) -> Names<'a>
         ensures { result ≡ self.now }
     {
         Names {
@@ -53,30 +53,30 @@ impl Names {
 }
 
 /// Where a fragment stands in its datagram.
-#[derive(Debug, PartialEq, Eq, Drop)]
-pub enum Part {
+#[derive(Debug, Drop)]
+pub enum Part<'a> {
     /// At the beginning, with the names (F set).
-    First(Names),
+    First(Names<'a>),
     /// Behind as many octets of data, without names (F clear).
     Later(u16),
 }
 
 /// A fragment of a datagram with data, or a whole one (RFC 1002 section 4.4.2).
-#[derive(Debug, PartialEq, Eq, Drop)]
+#[derive(Debug, Drop)]
 pub struct Fragment<'a> {
     /// Who the datagram is for.
     pub delivery: Delivery,
     /// Where the fragment stands, and the names where it is the first.
-    pub part: Part,
+    pub part: Part<'a>,
     /// Whether other fragments follow (M).
     pub more: bool,
     /// USER_DATA, borrowed from the packet's octets.
     pub payload: &'a [u8],
 }
 
-impl Fragment<'_> {
+impl<'a> Fragment<'a> {
     /// The names, where the fragment is the first and the last one: a whole datagram.
-    pub(crate) fn names_if_whole(&self) -> Option<&Names>
+    pub(crate) fn names_if_whole(&self) -> Option<&Names<'a>>
         ensures whole { IfSome result (λ names. (self.now.part ≡ First names.now) × (self.now.more ≡ false)) }
         ensures part { IfNone result ((names : Names) → self.now.part ≡ First names → self.now.more ≡ true) }
     {
@@ -106,7 +106,7 @@ impl Fragment<'_> {
 }
 
 /// What stands after the ten octets that each datagram begins with.
-#[derive(Debug, PartialEq, Eq, Drop)]
+#[derive(Debug, Drop)]
 pub enum Body<'a> {
     /// 0x10 to 0x12: a fragment, or a whole datagram.
     Fragment(Fragment<'a>),
@@ -114,12 +114,12 @@ pub enum Body<'a> {
     /// format, 0x84 invalid destination name format; any other is read too.
     Error(u8),
     /// 0x14 to 0x16: the name that is queried (RFC 1002 sections 4.4.4 and 4.4.5).
-    Lookup(Lookup, Name),
+    Lookup(Lookup, LentName<'a>),
 }
 
 /// A packet of the datagram service (RFC 1002 section 4.4). Of FLAGS it keeps F and M alone, and these of a fragment
 /// alone.
-#[derive(Debug, PartialEq, Eq, Drop)]
+#[derive(Debug, Drop)]
 pub struct Dgram<'a> {
     /// DGM_ID, by which the fragments of one datagram are known.
     pub id: u16,
@@ -132,7 +132,7 @@ pub struct Dgram<'a> {
 /// The most octets that DGM_LENGTH counts.
 const LENGTH_MOST: usize = 65535;
 
-impl Part {
+impl Part<'_> {
     /// PACKET_OFFSET: how many octets of data stand before the fragment's.
     pub fn offset(&self) -> u16
         ensures { result ≡ offset_of self.now }

@@ -3,7 +3,6 @@
 ghost use Rattle.std.specs.Prelude.{◌≡◌};
 
 use crate::dgram::Names;
-use arrayvec::ArrayVec;
 use thiserror::Error;
 
 /// Why a packet is dropped (our profile).
@@ -39,36 +38,22 @@ impl Dropped {
     }
 }
 
-/// A datagram's data.
-#[derive(Debug, Drop)]
-pub enum Payload<'a> {
-    /// Of any length, borrowed from the one packet that has them.
-    Lent(&'a [u8]),
-    /// At most 512 octets, joined from fragments.
-    Joined(ArrayVec<u8, 512>),
-}
-
-impl Payload<'_> {
-    ghost use Rattle.nbt_dgram.specs.Joiner.{octets_of};
-
-    /// The octets.
-    pub fn as_slice(&self) -> &[u8]
-        ensures { result.now ≡ octets_of self.now }
-    {
-        match self {
-            Payload::Lent(octets) => octets,
-            Payload::Joined(octets) => octets.as_slice(),
-        }
-    }
-}
-
 /// What a packet that is put to a joiner leads to.
 #[derive(Debug, Drop)]
 pub enum Joined<'a> {
-    /// The datagram is whole: its names and its data.
-    Whole(Names, Payload<'a>),
+    /// The datagram is whole: its names and its data, lent by the one packet that has them, of any length, or by the room in
+    /// which the fragments were put together, of at most 512 octets.
+    Whole(Names<'a>, &'a [u8]),
     /// Other fragments are missing.
     Waiting,
     /// The packet is dropped.
+    Dropped(Dropped),
+}
+
+/// What a fragment leads to. The datagram that it makes whole stands in the room for it.
+#[derive(Debug, Drop)]
+pub(crate) enum Step {
+    Whole,
+    Waiting,
     Dropped(Dropped),
 }

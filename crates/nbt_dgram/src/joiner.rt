@@ -3,7 +3,8 @@
 ghost use Rattle.std.specs.Prelude.{◌≡◌};
 
 use crate::dgram::{Body, Dgram};
-use crate::joined::{Dropped, Joined, Payload};
+use crate::joined::{Dropped, Joined, Step};
+use crate::reassembly::Reassembly;
 use crate::slot::{Key, Slot};
 use crate::slots;
 use nbt_lease::Moment;
@@ -61,8 +62,15 @@ impl<const S: usize> Joiner<S> {
     /// - `Whole` where the first fragment, the last one and every octet between are known; the slot is then free.
     ///   Otherwise `Waiting`.
     ///
+    /// What is put together from fragments stands in `room`, which lends it.
+    ///
     /// Our profile, after RFC 1002 section 5.3.3.
-    pub fn put<'a>(&mut self, now: Moment, dgram: &Dgram<'a>) -> Joined<'a>
+    pub fn put<'a>(
+        &mut self,
+        now: Moment,
+        dgram: &Dgram<'a>,
+        room: &'a mut Reassembly,
+    ) -> Joined<'a>
         requires { IsData (dgram_of dgram.now) }
         ensures { Puts self.old now (dgram_of dgram.now) (joined_of result) self.new }
     {
@@ -75,13 +83,17 @@ impl<const S: usize> Joiner<S> {
             unreachable!();
         };
         if let Some(names) = fragment.names_if_whole() {
-            return Joined::Whole(names.copy(), Payload::Lent(fragment.payload));
+            return Joined::Whole(names.copy(), fragment.payload);
         }
         let key = Key {
             source: dgram.source,
             id: dgram.id,
         };
-        slots::join(&mut self.slots, now, key, fragment)
+        match slots::join(&mut self.slots, now, key, fragment, room) {
+            Step::Whole => room.joined(),
+            Step::Waiting => Joined::Waiting,
+            Step::Dropped(reason) => Joined::Dropped(reason),
+        }
     }
 
     /// Gives up each datagram that began more than 2,000 ms before, and returns how many these were; where `now` is

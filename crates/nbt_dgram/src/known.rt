@@ -1,6 +1,6 @@
 //! Octets of which some are known: a list with a gap where one isn't.
 
-ghost use Rattle.std.specs.Prelude.{◌≡◌, ℕ, ◌+◌, ◌<◌, ◌≤◌, ◌↔◌, length, map, take, slice_index, Some, IsTrue, IfSome, IfNone, List};
+ghost use Rattle.std.specs.Prelude.{◌≡◌, ℕ, ◌+◌, ◌<◌, ◌≤◌, ◌↔◌, length, map, take, slice_index, Some, IsTrue, IsFalse, List};
 ghost use Rattle.nbt_dgram.specs.Slot.{known_at, octets_with};
 
 use arrayvec::ArrayVec;
@@ -52,16 +52,19 @@ pub(crate) fn write(known: &mut [Option<u8>], begin: usize, payload: &[u8])
     }
 }
 
-/// The octets before the end, where all of them are known.
-pub(crate) fn read(known: &[Option<u8>], end: usize) -> Option<ArrayVec<u8, 512>>
+/// Leaves in `out` the octets before the end and nothing else, where all of them are known. Returns whether they are.
+pub(crate) fn read(known: &[Option<u8>], end: usize, out: &mut ArrayVec<u8, 512>) -> bool
     requires known { end ≤ length known.now }
     requires room { end ≤ 512 }
-    ensures filled { IfSome result (λ payload. take end known.now ≡ map Some payload.items) }
-    ensures gap { IfNone result ((payload : List ℕ) → take end known.now ≡ map Some payload → ⊥) }
+    ensures filled { IsTrue result → take end known.now ≡ map Some out.new.items }
+    ensures gap { IsFalse result → (payload : List ℕ) → take end known.now ≡ map Some payload → ⊥ }
 {
-    let mut payload = ArrayVec::new();
+    out.clear();
     for octet in &known[..end] {
-        payload.push((*octet)?);
+        let Some(octet) = octet else {
+            return false;
+        };
+        out.push(*octet);
     }
-    Some(payload)
+    true
 }

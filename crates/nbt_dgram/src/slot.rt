@@ -1,17 +1,17 @@
 //! An unfinished datagram, and what its fragments say (RFC 1002 section 5.3.3).
 
-ghost use Rattle.std.specs.Prelude.{◌≡◌, ℕ, ◌<◌, ◌≤◌, ◌↔◌, false, List, length, IsTrue, IfSome, IfNone, Some, None};
+ghost use Rattle.std.specs.Prelude.{◌≡◌, ℕ, ◌<◌, ◌≤◌, ◌↔◌, false, List, length, IsTrue, IsFalse, Some, None};
 ghost use Rattle.nbt_dgram.specs.declared.dgram.Names.{Names};
 ghost use Rattle.nbt_dgram.specs.declared.dgram.Part.TheVariants.{First};
 ghost use Rattle.nbt_dgram.specs.Dgram.{fragment_of};
 ghost use Rattle.nbt_dgram.specs.Fragments.{end_of};
 ghost use Rattle.nbt_dgram.specs.Slot.{known_at, fresh, Agrees, joined, IsWhole};
 
-use crate::dgram::{Fragment, Names, Part};
+use crate::dgram::{Fragment, Part};
 use crate::known;
 use crate::msg_type::Delivery;
+use crate::reassembly::{KeptNames, Reassembly};
 use crate::splitting::DATA_MOST;
-use arrayvec::ArrayVec;
 use nbt_lease::Moment;
 use nbt_name::Addr;
 
@@ -30,7 +30,7 @@ pub(crate) struct Slot {
     pub(crate) began: Moment,
     pub(crate) delivery: Delivery,
     /// The names, once the first fragment came.
-    pub(crate) names: Option<Names>,
+    pub(crate) names: Option<KeptNames>,
     /// How many octets of data there are, once the last fragment came.
     pub(crate) end: Option<usize>,
     /// The octets of data, where they are known.
@@ -80,7 +80,7 @@ impl Slot {
         ensures { self.new ≡ joined (fragment_of fragment.now) self.old }
     {
         if let Part::First(names) = &fragment.part {
-            self.names = Some(names.copy());
+            self.names = Some(KeptNames::of(names));
         }
         if !fragment.more {
             self.end = Some(fragment.end());
@@ -88,36 +88,32 @@ impl Slot {
         known::write(&mut self.octets, fragment.begin(), fragment.payload);
     }
 
-    /// The names and the data, where the names, the end and every octet below it are known.
-    pub(crate) fn whole(&self) -> Option<(Names, ArrayVec<u8, 512>)>
+    /// Puts the names and the data into the room, where the names, the end and every octet below it are known. Returns whether
+    /// they are.
+    pub(crate) fn put_together(&self, room: &mut Reassembly) -> bool
         requires { length self.now.octets ≡ 512 }
-        ensures whole { IfSome result (λ found. IsWhole self.now found.0 found.1.items) }
-        ensures unfinished { IfNone result ((names : Names) (payload : List ℕ) → ¬ IsWhole self.now names payload) }
+        ensures whole { IsTrue result → IsWhole self.now room.new.names room.new.data.items }
+        ensures unfinished { IsFalse result → (names : Names) (payload : List ℕ) → ¬ IsWhole self.now names payload }
     {
-        let names = self.names.as_ref()?;
-        let end = self.end?;
-        if end > DATA_MOST {
-            return None;
+        let (Some(names), Some(end)) = (&self.names, self.end) else {
+            return false;
+        };
+        if end > DATA_MOST || !known::read(&self.octets, end, &mut room.data) {
+            return false;
         }
-        let payload = known::read(&self.octets, end)?;
-        Some((names.copy(), payload))
+        room.names = names.copy();
+        true
     }
 }
 
 /// Whether a first fragment's names are those that are known.
-fn are_same_names(known: &Option<Names>, part: &Part) -> bool
+fn are_same_names(known: &Option<KeptNames>, part: &Part<'_>) -> bool
     ensures { IsTrue result ↔ ((a b : Names) → known.now ≡ Some a → part.now ≡ First b → a ≡ b) }
 {
     match (known, part) {
-        (Some(known), Part::First(names)) => are_equal(known, names),
+        (Some(known), Part::First(names)) => known.are(names),
         _ => true,
     }
-}
-
-fn are_equal(a: &Names, b: &Names) -> bool
-    ensures { IsTrue result ↔ (a.now ≡ b.now) }
-{
-    a == b
 }
 
 /// Whether a fragment doesn't pass the known end, and is the last one only at that end.

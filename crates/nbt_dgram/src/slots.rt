@@ -5,11 +5,13 @@ ghost use Rattle.std.specs.List.{position, All};
 ghost use Rattle.nbt_dgram.specs.Dgram.{fragment_of};
 ghost use Rattle.nbt_dgram.specs.Fragments.{end_of};
 ghost use Rattle.nbt_dgram.specs.Joiner as spec;
-ghost use Rattle.nbt_dgram.specs.Joiner.{kept, emptied, is_free, Joins, joined_of};
-ghost use Rattle.nbt_dgram.specs.Inner.Joining.{JoinsSlot, HasRoom, IsTaken, JoinsAt, Begins};
+ghost use Rattle.nbt_dgram.specs.Joiner.{kept, emptied, is_free, Joins};
+ghost use Rattle.nbt_dgram.specs.declared.reassembly.Reassembly.{Reassembly as Room};
+ghost use Rattle.nbt_dgram.specs.Inner.Joining.{led_to, JoinsSlot, HasRoom, IsTaken, JoinsAt, Begins};
 
 use crate::dgram::Fragment;
-use crate::joined::{Dropped, Joined, Payload};
+use crate::joined::{Dropped, Step};
+use crate::reassembly::Reassembly;
 use crate::slot::{Key, Slot};
 use crate::splitting::DATA_MOST;
 use nbt_lease::Moment;
@@ -60,20 +62,21 @@ pub(crate) fn join(
     now: Moment,
     key: Key,
     fragment: &Fragment<'_>,
-) -> Joined<'static>
+    room: &mut Reassembly,
+) -> Step
     requires { All HasRoom slots.old }
-    ensures joins { Joins slots.old now key (fragment_of fragment.now) (joined_of result) slots.new }
+    ensures joins { Joins slots.old now key (fragment_of fragment.now) (led_to result room.new) slots.new }
     ensures room { All HasRoom slots.new }
 {
     if fragment.end() > DATA_MOST {
         empty(slots, &key);
-        return Joined::Dropped(Dropped::TooLong);
+        return Step::Dropped(Dropped::TooLong);
     }
     let Some(place) = find(slots, &key) else {
         return begin(slots, now, key, fragment);
     };
-    match join_at(slots, place, fragment) {
-        Joined::Waiting => Joined::Waiting,
+    match join_at(slots, place, fragment, room) {
+        Step::Waiting => Step::Waiting,
         done => {
             empty(slots, &key);
             done
@@ -82,49 +85,51 @@ pub(crate) fn join(
 }
 
 /// Begins a slot with its first fragment, in the lowest free place.
-fn begin(
-    slots: &mut [Option<Slot>],
-    now: Moment,
-    key: Key,
-    fragment: &Fragment<'_>,
-) -> Joined<'static>
+fn begin(slots: &mut [Option<Slot>], now: Moment, key: Key, fragment: &Fragment<'_>) -> Step
     requires { end_of (fragment_of fragment.now) ≤ 512 }
-    ensures { Begins slots.old now key (fragment_of fragment.now) (joined_of result) slots.new }
+    ensures { (room : Room) → Begins slots.old now key (fragment_of fragment.now) (led_to result room) slots.new }
 {
     let Some(place) = find_free(slots) else {
-        return Joined::Dropped(Dropped::Full);
+        return Step::Dropped(Dropped::Full);
     };
     let mut slot = Slot::new(key, now, fragment.delivery);
     slot.join(fragment);
     slots[place] = Some(slot);
-    Joined::Waiting
+    Step::Waiting
 }
 
 /// Joins a fragment to the slot in this place.
-fn join_at(slots: &mut [Option<Slot>], place: usize, fragment: &Fragment<'_>) -> Joined<'static>
+fn join_at(
+    slots: &mut [Option<Slot>],
+    place: usize,
+    fragment: &Fragment<'_>,
+    room: &mut Reassembly,
+) -> Step
     requires fits { end_of (fragment_of fragment.now) ≤ 512 }
     requires taken { IsTaken slots.old place }
     requires room { All HasRoom slots.old }
-    ensures { JoinsAt slots.old place (fragment_of fragment.now) (joined_of result) slots.new }
+    ensures { JoinsAt slots.old place (fragment_of fragment.now) (led_to result room.new) slots.new }
 {
     match &mut slots[place] {
-        Some(slot) => join_slot(slot, fragment),
+        Some(slot) => join_slot(slot, fragment, room),
         None => unreachable!(),
     }
 }
 
-fn join_slot(slot: &mut Slot, fragment: &Fragment<'_>) -> Joined<'static>
+/// Joins a fragment to a slot, where it agrees.
+fn join_slot(slot: &mut Slot, fragment: &Fragment<'_>, room: &mut Reassembly) -> Step
     requires fits { end_of (fragment_of fragment.now) ≤ 512 }
     requires room { length slot.old.octets ≡ 512 }
-    ensures { JoinsSlot slot.old (fragment_of fragment.now) (joined_of result) slot.new }
+    ensures { JoinsSlot slot.old (fragment_of fragment.now) (led_to result room.new) slot.new }
 {
     if !slot.agrees(fragment) {
-        return Joined::Dropped(Dropped::Conflict);
+        return Step::Dropped(Dropped::Conflict);
     }
     slot.join(fragment);
-    match slot.whole() {
-        Some((names, payload)) => Joined::Whole(names, Payload::Joined(payload)),
-        None => Joined::Waiting,
+    if slot.put_together(room) {
+        Step::Whole
+    } else {
+        Step::Waiting
     }
 }
 

@@ -8,7 +8,7 @@ use crate::dgram::{Body, Dgram, Fragment, Names, Part};
 use crate::fault::TooLong;
 use crate::msg_type::Delivery;
 use arrayvec::ArrayVec;
-use nbt_name::{Addr, Name};
+use nbt_name::{Addr, LentName};
 
 /// The packets that data are split into: one, or two in order.
 pub type Fragments<'a> = ArrayVec<Dgram<'a>, 2>;
@@ -27,8 +27,8 @@ pub fn split<'a>(
     delivery: Delivery,
     id: u16,
     own: Addr,
-    source: &Name,
-    destination: &Name,
+    source: &LentName<'a>,
+    destination: &LentName<'a>,
     payload: &'a [u8],
 ) -> Result<Fragments<'a>, TooLong>
     ensures long { IsErr result ↔ (512 < length payload.now) }
@@ -58,12 +58,12 @@ fn packet<'a>(
     delivery: Delivery,
     id: u16,
     own: Addr,
-    part: Part,
+    part: Part<'a>,
     more: bool,
     payload: &'a [u8],
 ) -> Dgram<'a>
     ensures { dgram_of result
-        ≡ of_fragment id own (record { delivery = delivery; part = part; more = more; payload = payload.now }) }
+        ≡ of_fragment id own (record { delivery = delivery; part = part.entry; more = more; payload = payload.now }) }
 {
     let fragment = Fragment {
         delivery,

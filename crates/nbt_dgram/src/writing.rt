@@ -90,7 +90,7 @@ fn put_fragment(out: &mut ArrayVec<u8, 576>, written: &Fragment<'_>) -> Result<(
 }
 
 /// The names, where the fragment is the first.
-fn put_names(out: &mut ArrayVec<u8, 576>, part: &Part)
+fn put_names(out: &mut ArrayVec<u8, 576>, part: &Part<'_>)
     requires { length out.old.items ≡ 14 }
     ensures form { out.new.items ≡ out.old.items ++ names_text part.now }
     ensures fits { length (names_text part.now) ≤ 510 }

@@ -10,7 +10,7 @@ ghost use Rattle.nbt_explain.specs.Words.{PrintsNamed};
 use crate::naming::write_named;
 use crate::words::{node_word, write_code_line, write_flag};
 use nbt_dgram::{Body, Delivery, Dgram, Fragment, Lookup, MsgType, Part, decode};
-use nbt_name::Name;
+use nbt_name::LentName;
 use nbt_show::write_word;
 use nbt_text::{end_line, write_address};
 use std::alloc::AllocError;
@@ -145,7 +145,7 @@ fn write_data(fragment: &Fragment<'_>, out: &mut String) -> Result<(), AllocErro
 }
 
 /// Appends the lines of the names, where there are names.
-fn write_part(part: &Part, out: &mut String) -> Result<(), AllocError>
+fn write_part(part: &Part<'_>, out: &mut String) -> Result<(), AllocError>
     ensures { OnOk result ((text : List ℕ) × PrintsPart PrintsNamed (codes "Source name: ") (codes "Destination name: ") part.now text
         × (string_bytes out.new ≡ string_bytes out.old ++ text)) }
 {
@@ -157,12 +157,12 @@ fn write_part(part: &Part, out: &mut String) -> Result<(), AllocError>
 }
 
 /// Appends the line of a name.
-fn write_name_line(label: &str, name: &Name, out: &mut String) -> Result<(), AllocError>
+fn write_name_line(label: &str, name: &LentName<'_>, out: &mut String) -> Result<(), AllocError>
     ensures { OnOk result ((text : List ℕ) × PrintsNamed name.now text
         × (string_bytes out.new ≡ string_bytes out.old ++ name_line label.now text)) }
 {
     out.push_str(label)?;
-    write_named(name, out)?;
+    write_named(&name.to_name(), out)?;
     end_line(out)
 }
 

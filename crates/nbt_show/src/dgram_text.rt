@@ -8,7 +8,7 @@ ghost use Rattle.nbt_text.specs.NameText.{PrintsName};
 
 use crate::packet_text::{write_data, write_word};
 use nbt_dgram::{Body, Dgram, Fragment, Part, decode};
-use nbt_name::Name;
+use nbt_name::LentName;
 use nbt_text::{end_line, write_address, write_hexadecimal, write_name};
 use std::alloc::AllocError;
 
@@ -73,7 +73,7 @@ fn write_body(body: &Body<'_>, out: &mut String) -> Result<(), AllocError>
 }
 
 /// Appends the lines of the names, where there are names.
-fn write_part(part: &Part, out: &mut String) -> Result<(), AllocError>
+fn write_part(part: &Part<'_>, out: &mut String) -> Result<(), AllocError>
     ensures { OnOk result ((text : List ℕ) × (string_bytes out.new ≡ string_bytes out.old ++ text)
         × PrintsPart PrintsName (codes "source ") (codes "destination ") part.now text) }
 {
@@ -95,12 +95,12 @@ fn write_payload(fragment: &Fragment<'_>, out: &mut String) -> Result<(), AllocE
 }
 
 /// Appends the line of a name.
-fn write_name_line(label: &str, name: &Name, out: &mut String) -> Result<(), AllocError>
+fn write_name_line(label: &str, name: &LentName<'_>, out: &mut String) -> Result<(), AllocError>
     ensures { OnOk result ((text : List ℕ) × (string_bytes out.new ≡ string_bytes out.old ++ name_line label.now text)
         × PrintsName name.now text) }
 {
     out.push_str(label)?;
-    write_name(name, out)?;
+    write_name(&name.to_name(), out)?;
     end_line(out)
 }
 

@@ -5,9 +5,18 @@ use Rattle.nbt_dgram.specs.declared.dgram.Names.{Names}
 use Rattle.nbt_dgram.specs.declared.slot.Key.{Key}
 use Rattle.nbt_dgram.specs.declared.slot.Slot.{Slot}
 use Rattle.nbt_dgram.specs.declared.joined.Dropped.TheVariants as reasons
+use Rattle.nbt_dgram.specs.declared.joined.Step.{Step}
+use Rattle.nbt_dgram.specs.declared.joined.Step.TheVariants as steps
+use Rattle.nbt_dgram.specs.declared.reassembly.Reassembly.{Reassembly}
 use Rattle.nbt_dgram.specs.Dgram.{FragmentValue}
 use Rattle.nbt_dgram.specs.Slot.{fresh, Agrees, joined, IsWhole}
 use Rattle.nbt_dgram.specs.Joiner.{JoinedValue, whole, waiting, dropped, is_free}
+
+-- what a step led to, with what stands in the room
+abbrev pub led_to : Step → Reassembly → JoinedValue
+led_to steps.Whole room = whole room.names room.data.items
+led_to steps.Waiting room = waiting
+led_to (steps.Dropped reason) room = dropped reason
 
 -- one slot that a fragment joins, where it agrees
 pub data JoinsSlot (s : Slot) (f : FragmentValue) : JoinedValue → Slot → Type 0 where

@@ -10,10 +10,11 @@ use nbt_dgram::laws::{
 };
 use nbt_dgram::{
     Accept, Body, Delivery, Dgram, DgramFault, DgramFaultKind, Dropped, Fragment, Fragments, Full,
-    Joined, Joiner, Lookup, MsgType, Names, Part, Payload, TooLong, accept, decode, encode, split,
+    Joined, Joiner, Lookup, MsgType, Names, Part, Reassembly, TooLong, accept, decode, encode,
+    split,
 };
 use nbt_lease::Config;
-use nbt_name::{Addr, Kind};
+use nbt_name::{Addr, Kind, Name};
 use nbt_node::{Event, Node};
 use std::process::Abort;
 
@@ -38,19 +39,20 @@ const SECOND_END: Addr = Addr {
     port: 138,
 };
 
-/// The packets that these octets of data are split into.
+/// The packets that these octets of data are split into, from one of two names to the other.
 fn fragments<'a>(
     rt: &impl Abort,
     delivery: Delivery,
-    scope: &[u8],
+    source: &'a Name,
+    destination: &'a Name,
     payload: &'a [u8],
 ) -> Fragments<'a> {
     split(
         delivery,
         1,
         FIRST_END,
-        &fred(rt, scope),
-        &team(rt, scope),
+        &source.lend(),
+        &destination.lend(),
         payload,
     )
     .expect(rt, "split")
@@ -69,7 +71,8 @@ fn octets_of(rt: &(impl Abort + AllocGlobal), packet: &Dgram<'_>) -> Vec<u8> {
 /// The octets of the packets that data of 512 octets are split into.
 fn written(rt: &(impl Abort + AllocGlobal), scope: &[u8]) -> Vec<Vec<u8>> {
     let payload = [7; 512];
-    let packets = fragments(rt, Delivery::DirectGroup, scope, &payload);
+    let (source, destination) = (fred(rt, scope), team(rt, scope));
+    let packets = fragments(rt, Delivery::DirectGroup, &source, &destination, &payload);
     let mut all = Vec::new(rt.alloc());
     for packet in packets.as_slice() {
         all.push(octets_of(rt, packet)).expect(rt, "memory");
@@ -78,7 +81,7 @@ fn written(rt: &(impl Abort + AllocGlobal), scope: &[u8]) -> Vec<Vec<u8>> {
 }
 
 /// A fragment of a datagram to TEAM with this id.
-fn piece(id: u16, part: Part, more: bool, payload: &[u8]) -> Dgram<'_> {
+fn piece<'a>(id: u16, part: Part<'a>, more: bool, payload: &'a [u8]) -> Dgram<'a> {
     Dgram {
         id,
         source: FIRST_END,
@@ -112,8 +115,8 @@ fn hello_is_read_and_written(rt: HostRuntime) {
     let Part::First(names) = fragment.part else {
         panic!(&rt; "no names");
     };
-    expect_eq(&rt, &names.source, &fred(&rt, b""));
-    expect_eq(&rt, &names.copy().destination, &team(&rt, b""));
+    expect(&rt, names.source.is(&fred(&rt, b"")));
+    expect(&rt, names.copy().destination.is(&team(&rt, b"")));
 }
 
 /// The scope of two names; of the packets that data of 512 octets are split into the lengths, and of some octets, by
@@ -175,10 +178,17 @@ fn more_than_512_octets_are_too_long(rt: HostRuntime) {
     let destination = team(&rt, b"");
     let long = [7; 513];
     let delivery = Delivery::DirectUnique;
-    let refused = split(delivery, 1, FIRST_END, &source, &destination, &long);
+    let refused = split(
+        delivery,
+        1,
+        FIRST_END,
+        &source.lend(),
+        &destination.lend(),
+        &long,
+    );
     expect(&rt, matches!(refused, Err(TooLong)));
     expect_eq(&rt, &TooLong.number(), &1);
-    let packets = fragments(&rt, delivery, b"", b"hello");
+    let packets = fragments(&rt, delivery, &source, &destination, b"hello");
     expect_eq(&rt, &packets.len(), &1);
 }
 
@@ -208,7 +218,7 @@ const CLOCK_BACK: Told = ("dropped", 4);
 
 fn outcome_of(joined: Joined<'_>) -> Told {
     match joined {
-        Joined::Whole(_, payload) => ("whole", payload.as_slice().len()),
+        Joined::Whole(_, payload) => ("whole", payload.len()),
         Joined::Waiting => WAITING,
         Joined::Dropped(why) => ("dropped", why.number() as usize),
     }
@@ -218,7 +228,8 @@ fn put(rt: &impl Abort, joiner: &mut Joiner<1>, ms: u64, dgram: &Dgram<'_>) -> T
     if !dgram.has_data() {
         panic!(rt; "no data");
     }
-    outcome_of(joiner.put(at(rt, ms), dgram))
+    let mut room = Reassembly::new();
+    outcome_of(joiner.put(at(rt, ms), dgram, &mut room))
 }
 
 const JOINS: &[(&str, &[u8], &[Step])] = &[
@@ -295,7 +306,8 @@ fn join_step<R: Abort + AllocGlobal>(
             expect_eq_in(rt, &what, &told, &expected);
         }
         Step::Piece(id, offset, more, expected) => {
-            let dgram = piece(id, part_at(rt, offset), more, b"ab");
+            let (source, destination) = (fred(rt, b""), team(rt, b""));
+            let dgram = piece(id, part_at(offset, &source, &destination), more, b"ab");
             expect_eq_in(rt, &what, &put(rt, joiner, 0, &dgram), &expected);
         }
         Step::Sweep(ms, emptied) => {
@@ -334,13 +346,13 @@ fn fragments_are_joined(rt: HostRuntime) {
 }
 
 /// The part at an offset: the first one has the names.
-fn part_at(rt: &impl Abort, offset: u16) -> Part {
+fn part_at<'a>(offset: u16, source: &'a Name, destination: &'a Name) -> Part<'a> {
     if offset > 0 {
         return Part::Later(offset);
     }
     Part::First(Names {
-        source: fred(rt, b""),
-        destination: team(rt, b""),
+        source: source.lend(),
+        destination: destination.lend(),
     })
 }
 
@@ -360,9 +372,7 @@ const NOTHING: Means = ("nothing", 0, 0);
 fn meaning_of(rt: &impl Abort, accepted: Accept<'_>) -> Means {
     match accepted {
         Accept::Up(names, payload) => {
-            let is_hello = matches!(payload, Payload::Lent(_))
-                && payload.as_slice() == b"hello".as_slice();
-            if !is_hello || names.destination != team(rt, b"") {
+            if payload != b"hello".as_slice() || !names.destination.is(&team(rt, b"")) {
                 panic!(rt; "something else is handed up");
             }
             UP
@@ -421,7 +431,9 @@ fn meaning(
     octets: &[u8],
     out: &mut ArrayVec<u8, 576>,
 ) -> Means {
-    meaning_of(rt, accept(joiner, at(rt, ms), node, from, octets, out))
+    let mut room = Reassembly::new();
+    let accepted = accept(joiner, at(rt, ms), node, from, octets, &mut room, out);
+    meaning_of(rt, accepted)
 }
 
 /// The octets mean this for the node, and if it is a reply, the error packet is written.
@@ -558,7 +570,7 @@ fn datagrams_cut_at_every_length(rt: HostRuntime) {
 }
 
 /// A fragment of `hello`, the last one or not.
-fn fragment(delivery: Delivery, part: Part, more: bool) -> Body<'static> {
+fn fragment(delivery: Delivery, part: Part<'_>, more: bool) -> Body<'_> {
     Body::Fragment(Fragment {
         delivery,
         part,
@@ -569,11 +581,8 @@ fn fragment(delivery: Delivery, part: Part, more: bool) -> Body<'static> {
 
 /// Fragments of this delivery, the first and a later one, are read back.
 fn fragments_are_read_back(rt: &impl Abort, delivery: Delivery, more: bool) {
-    let names = Names {
-        source: fred(rt, b""),
-        destination: team(rt, LONG_SCOPE),
-    };
-    let first = fragment(delivery, Part::First(names), more);
+    let (source, destination) = (fred(rt, b""), team(rt, LONG_SCOPE));
+    let first = fragment(delivery, part_at(0, &source, &destination), more);
     expect(rt, is_read_back(rt, first));
     let later = fragment(delivery, Part::Later(9), more);
     expect(rt, is_read_back(rt, later));
@@ -596,14 +605,15 @@ fn every_type_is_read_back(rt: HostRuntime) {
     for (delivery, more) in &DELIVERIES {
         fragments_are_read_back(&rt, *delivery, *more);
     }
+    let team = team(&rt, b"");
     for lookup in &LOOKUPS {
-        let body = Body::Lookup(*lookup, team(&rt, b""));
+        let body = Body::Lookup(*lookup, team.lend());
         expect(&rt, is_read_back(&rt, body));
     }
     expect(&rt, is_read_back(&rt, Body::Error(0x84)));
 }
 
-/// Whether a datagram with this body is read as it was written, also with octets after it.
+/// Whether a datagram with this body is read as it was written, also with octets after it: what is read has the same written form.
 fn is_read_back(rt: &impl Abort, body: Body<'_>) -> bool {
     let dgram = Dgram {
         id: 0x1234,
@@ -618,7 +628,9 @@ fn is_read_back(rt: &impl Abort, body: Body<'_>) -> bool {
     let count = out.len();
     out.try_push(0xFF).expect(rt, "memory");
     let (read, taken) = decode(out.as_slice()).expect(rt, "decoded");
-    taken == count && read == dgram
+    let mut again = ArrayVec::new();
+    encode(&read, &mut again).expect(rt, "encoded");
+    taken == count && again.as_slice() == &out.as_slice()[..count]
 }
 
 #[test]

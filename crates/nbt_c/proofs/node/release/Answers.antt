@@ -9,18 +9,18 @@ use Rattle.nbt_c.proofs.node.release.Goals as goal
 pub returns-in_default : goal.returns-in_default
 returns-in_default c = given (GivesBack c.args.node.now c.args.now c.args.name.now) refl refl c.clear.ensures (is.GivesBack.has_no_moment (above c.in_default.ensures.found))
 
-pub returns-in_default-read : goal.returns-in_default-read
-returns-in_default-read c = given (GivesBack c.args.node.now c.args.now c.args.name.now) refl refl c.clear.ensures (is.GivesBack.has_no_name (c.in-Some.ensures.found.0 refl) c.in_default-read.ensures.none)
+pub returns-in_default-lend : goal.returns-in_default-lend
+returns-in_default-lend c = given (GivesBack c.args.node.now c.args.now c.args.name.now) refl refl c.clear.ensures (is.GivesBack.has_no_name (c.in-Some.ensures.found.0 refl) c.in_default-lend.ensures.none)
 
 pub returns-in-Ok : goal.returns-in-Ok
 returns-in-Ok c =
-    let at = c.in-Some.ensures.value in let read = c.in-Some-read.ensures.read in
+    let at = c.in-Some.ensures.value in let read = c.in-Some-lend.ensures.read in
     is.GivesBack.gives_back c.release.new.self c.release.new.out.items (c.in-Some.ensures.found.0 refl) read.0
     (moved (λ m name. release_refusal c.args.node.now m name ≡ None) at read.1 (sym c.in-Ok.ensures.refused))
     (moved (λ m name. Sends c.args.node.now m name give_back c.release.new.self c.release.new.out.items) at read.1 c.in-Ok.ensures.ok)
 
 pub returns-in-Err : goal.returns-in-Err
 returns-in-Err c =
-    let at = c.in-Some.ensures.value in let read = c.in-Some-read.ensures.read in
+    let at = c.in-Some.ensures.value in let read = c.in-Some-lend.ensures.read in
     given (GivesBack c.args.node.now c.args.now c.args.name.now) c.number.ensures c.in-Err.ensures.err.0 c.in-Err.ensures.err.1
     (is.GivesBack.is_refused c.in-Err.fault (c.in-Some.ensures.found.0 refl) read.0 (moved (λ m name. release_refusal c.args.node.now m name ≡ Some c.in-Err.fault) at read.1 (sym c.in-Err.ensures.refused)))

@@ -12,4 +12,4 @@ of_both known part x y r e f same = (
 )
 
 pub returns-in-Some-First : goal.returns-in-Some-First
-returns-in-Some-First c = of_both c.args.known.now c.args.part.now c.in-Some-First.known c.in-Some-First.names c.are_equal.result c.in-Some-First.is-0 c.in-Some-First.is-1 c.are_equal.ensures
+returns-in-Some-First c = of_both c.args.known.now c.args.part.now c.in-Some-First.known c.in-Some-First.names c.are.result c.in-Some-First.is-0 c.in-Some-First.is-1 c.are.ensures

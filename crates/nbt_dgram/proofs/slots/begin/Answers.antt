@@ -3,7 +3,7 @@ use Rattle.nbt_dgram.specs.Inner.Joining.{no_place, in_place}
 use Rattle.nbt_dgram.proofs.slots.begin.Goals as goal
 
 pub returns-in_default : goal.returns-in_default
-returns-in_default c = no_place (sym c.in_default.ensures)
+returns-in_default c room = no_place (sym c.in_default.ensures)
 
 pub returns : goal.returns
-returns c = rw (c.join.ensures, c.new-slot.ensures) (in_place c.in-Some.place (sym c.in-Some.ensures))
+returns c room = rw (c.join.ensures, c.new-slot.ensures) (in_place c.in-Some.place (sym c.in-Some.ensures))
