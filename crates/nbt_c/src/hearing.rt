@@ -1,11 +1,12 @@
 //! A node in C's memory: it handles datagrams, polls, and says when it polls next, and which names it holds.
 
-ghost use Rattle.std.specs.Prelude.{◌≡◌, ℕ, List, Option, Some, IsSome};
+ghost use Rattle.std.specs.Prelude.{◌≡◌, ◌↔◌, ℕ, List, Option, Some, IsSome};
 ghost use Rattle.nbt_name.specs.declared.addr.Addr.{Addr as End};
 ghost use Rattle.nbt_name.specs.declared.addr.Kind.{Kind as HeldKind};
 ghost use Rattle.nbt_node.specs.Moves.{Told};
 ghost use Rattle.nbt_node.specs.Node.{NodeValue};
-ghost use Rattle.nbt_packet.specs.Message.{MessageValue};
+ghost use Rattle.nbt_packet.specs.Message.{MessageValue, message_if};
+ghost use Rattle.nbt_packet.specs.Spelling.{Spells};
 ghost use Rattle.nbt_node.specs.Waiting.{sends_at, IsFirst};
 ghost use Rattle.nbt_c.specs.Events.{event_for, lent_by};
 ghost use Rattle.nbt_c.specs.Ends.{addr_of};
@@ -21,7 +22,7 @@ use crate::results::{NO_MOMENT, NO_NAME, NOTHING_DUE};
 use nbt_lease::Moment;
 use nbt_name::{Addr, Kind};
 use nbt_node::{ClockBack, Event, Node, Standing};
-use nbt_packet::read;
+use nbt_packet::{Message, read};
 
 /// Calls `nbt_node::Node::handle` and `nbt_node::reply_to` with what C passes.
 fn hear(
@@ -29,10 +30,12 @@ fn hear(
     now: u64,
     from: Addr,
     octets: &[u8],
+    message: &Option<Message<'_>>,
     told: &mut CEvent,
     lent: &mut [u8],
     out: &mut Octets,
 ) -> u8
+    requires { (m : MessageValue) → (message_if message.now ≡ Some m) ↔ Spells octets.now m }
     ensures { (heard : Told) × (message : Option MessageValue) × Hears node.old now from octets.now result node.new heard message out.new.items
         × (told.new ≡ event_for heard message) × PutsMost (lent_by heard) lent.old lent.new }
 {
@@ -41,11 +44,10 @@ fn hear(
     let Some(now) = Moment::new(now) else {
         return NO_MOMENT;
     };
-    let message = read(octets);
-    match node.handle(now, from, &message, out) {
+    match node.handle(now, from, message, out) {
         Ok(event) => {
-            let event = answer(node, now, &message, event, out);
-            told.report(&event, &message);
+            let event = answer(node, now, message, event, out);
+            told.report(&event, message);
             put_most(lent_by(&event), lent);
             0
         }
@@ -75,16 +77,40 @@ pub extern "C" fn nbt_node_on_datagram(
         × (node.new.node ≡ Some new) × Hears old now (addr_of from) octets.now result new told message reply × (event.new ≡ event_for told message)
         × PutsMost (lent_by told) lent.old lent.new × Puts reply out.old out.new size.new }
 {
-    let mut reply = Octets::new();
-    let result = hear(
+    let message = read(octets);
+    hear_message(
         node.get(),
         now,
         from.addr(),
         octets,
+        &message,
         event,
         lent,
-        &mut reply,
-    );
+        out,
+        size,
+    )
+}
+
+/// The same with the message that the octets spell. It stands apart for its room on the stack, which the reading of them doesn't
+/// take.
+#[inline(never)]
+fn hear_message(
+    node: &mut Node<14>,
+    now: u64,
+    from: Addr,
+    octets: &[u8],
+    message: &Option<Message<'_>>,
+    event: &mut CEvent,
+    lent: &mut [u8],
+    out: &mut [u8; 576],
+    size: &mut usize,
+) -> u8
+    requires { (m : MessageValue) → (message_if message.now ≡ Some m) ↔ Spells octets.now m }
+    ensures { (told : Told) × (heard : Option MessageValue) × (reply : List ℕ) × Hears node.old now from octets.now result node.new told heard reply
+        × (event.new ≡ event_for told heard) × PutsMost (lent_by told) lent.old lent.new × Puts reply out.old out.new size.new }
+{
+    let mut reply = Octets::new();
+    let result = hear(node, now, from, octets, message, event, lent, &mut reply);
     *size = put_packet(reply.as_slice(), out);
     result
 }

@@ -51,41 +51,49 @@ impl CName {
         ensures { self.new ≡ stored_if name.now }
     {
         match name {
-            Some(name) => *self = CName::of(&name.to_name()),
-            None => *self = CName::none(),
+            Some(name) => self.fill(&name.to_name()),
+            None => self.clear(),
         }
     }
 
-    /// No name: zeros.
-    fn none() -> CName
-        ensures { result ≡ stored_if None }
+    /// Becomes no name: zeros.
+    fn clear(&mut self)
+        ensures { self.new ≡ stored_if None }
     {
-        CName {
-            octets: [0; 16],
-            scope_size: 0,
-            scope: filled(&[]),
-        }
+        self.octets = [0; 16];
+        self.scope_size = 0;
+        self.scope = [0; SCOPE_MOST];
     }
 
     /// The name for C.
     pub(crate) fn of(name: &Name) -> CName
         ensures { result ≡ stored name.now }
     {
+        let mut stored = CName {
+            octets: [0; 16],
+            scope_size: 0,
+            scope: [0; SCOPE_MOST],
+        };
+        stored.fill(name);
+        stored
+    }
+
+    /// Becomes this name, where it stands.
+    fn fill(&mut self, name: &Name)
+        ensures { self.new ≡ stored name.now }
+    {
         let labels = name.scope();
-        CName {
-            octets: *name.octets(),
-            scope_size: labels.len() as u8,
-            scope: filled(labels),
-        }
+        self.octets = *name.octets();
+        self.scope_size = labels.len() as u8;
+        fill(labels, &mut self.scope);
     }
 }
 
-/// The labels at the front of 221 octets, which zeros fill up.
-fn filled(labels: &[u8]) -> [u8; 221]
+/// Puts the labels at the front of 221 octets, which zeros fill up.
+fn fill(labels: &[u8], scope: &mut [u8; 221])
     requires { length labels.now ≤ 221 }
-    ensures { result ≡ filled_scope labels.now }
+    ensures { scope.new ≡ filled_scope labels.now }
 {
-    let mut scope = [0; SCOPE_MOST];
+    *scope = [0; SCOPE_MOST];
     scope[..labels.len()].copy_from_slice(labels);
-    scope
 }

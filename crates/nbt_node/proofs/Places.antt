@@ -1,10 +1,11 @@
 -- Where a name's slot is, or the lowest free one, and what a state that is put there changes.
-use Rattle.std.proofs.Common.{◌≡◌, ℕ, zero, suc, ◌<◌, true, false, Bool, List, [], ◌∷◌, length, get_or, set, Option, Some, None, refl, sym, ap, arith, inl, inr}
+use Rattle.std.proofs.Common.{◌≡◌, ℕ, zero, suc, ◌<◌, true, false, Bool, List, [], ◌∷◌, length, get_or, set, Option, Some, None, refl, sym, ap, ◌∙◌, arith, inl, inr}
 use Rattle.std.specs.Prelude.{is_none}
 use Rattle.std.specs.List.{position, position_or_len}
 use Rattle.std.proofs.lemmas.Bool.{cases_lt, lt-ltb, or_from}
 use Rattle.std.proofs.lemmas.List.Quantifiers.{position-Some}
 use Rattle.std.proofs.lemmas.List.Sums.{fails_before_first}
+use Rattle.nbt_name.proofs.Same.{same_name-true}
 use Rattle.nbt_name.specs.Wire.{NameValue, same_name}
 use Rattle.nbt_node.specs.declared.state.State.{State}
 use Rattle.nbt_node.specs.declared.state.Slot.{Slot}
@@ -53,6 +54,17 @@ own_changed xs name state i found =
     let at = position-Some (λ (slot : Option Slot). is_named slot name) xs i None found in
     let is = put_at name state xs i at.0 at.1 at.2 in
     rw is.0 (sym is.1)
+
+-- the state alone changes where the slot is there
+pub own_set : (xs : List (Option Slot)) (name : NameValue) (state : State) (i : ℕ) (d after : Option Slot) → position (λ slot. is_named slot name) xs ≡ Some i
+    → ((kept : Slot) → get_or xs i d ≡ Some kept → after ≡ slot_of kept.name state) → set xs i after ≡ with_state xs name state
+own_set xs name state i d after found each =
+    let at = position-Some (λ (slot : Option Slot). is_named slot name) xs i d found in
+    rw (of_kept (get_or xs i d) at.1 each) (own_changed xs name state i found)
+  where
+    of_kept : (slot : Option Slot) → is_named slot name ≡ true → ((kept : Slot) → slot ≡ Some kept → after ≡ slot_of kept.name state) → after ≡ slot_of name state
+    of_kept None is each = absurd cc
+    of_kept (Some kept) is each = each kept refl ∙ ap (λ (n : NameValue). slot_of n state) (same_name-true kept.name name is)
 
 pub free_changed : (xs : List (Option Slot)) (name : NameValue) (state : State) (i : ℕ) → position (λ slot. is_named slot name) xs ≡ None → position is_none xs ≡ Some i → set xs i (slot_of name state) ≡ with_state xs name state
 free_changed xs name state i none found =

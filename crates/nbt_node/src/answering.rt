@@ -96,6 +96,7 @@ fn is_reply(event: Event<'_>) -> bool
 
 /// Leaves in `out`, where the node's own reply stands, if it has one, what is sent back at `now` to who sent this message.
 /// Returns whether there is something.
+#[inline(never)]
 pub fn reply_to<const N: usize>(
     node: &Node<N>,
     now: Moment,

@@ -132,6 +132,7 @@ impl<const N: usize> Node<N> {
     }
 
     /// Why the name may not be registered, judged by the node that is settled at `now`.
+    #[inline(never)]
     fn ask_fault(&self, now: Moment, name: &LentName<'_>) -> Option<AskFault>
         ensures fault { result ≡ ask_refusal self.now now name.now }
         ensures later { IsNone result → self.now.last ≤ now }
@@ -292,6 +293,7 @@ impl<const N: usize> Node<N> {
         }
     }
 
+    #[inline(never)]
     fn poll_lookup(&mut self, now: Moment, out: &mut ArrayVec<u8, 576>) -> Option<Addr>
         requires later { self.old.last ≤ now }
         requires slot { slot_due self.old now ≡ None }
@@ -452,6 +454,7 @@ impl<const N: usize> Node<N> {
     }
 
     /// What a message from an endpoint makes of the node.
+    #[inline(never)]
     fn take<'a>(
         &mut self,
         now: Moment,
@@ -513,6 +516,7 @@ impl<const N: usize> Node<N> {
     }
 
     /// A status request. The names are those of the node that is settled at `now`.
+    #[inline(never)]
     fn list_names<'a>(
         &mut self,
         now: Moment,
@@ -561,6 +565,7 @@ impl<const N: usize> Node<N> {
     }
 
     /// Gives a name the state that a reply leads to, and reports the event, where the server sent the reply.
+    #[inline(never)]
     fn hear<'a>(
         &mut self,
         now: Moment,
@@ -583,6 +588,7 @@ impl<const N: usize> Node<N> {
     }
 
     /// The name's state at `now`.
+    #[inline(never)]
     fn state_at(&self, now: Moment, name: &LentName<'_>) -> State
         ensures { result ≡ state_at self.now now name.now }
     {

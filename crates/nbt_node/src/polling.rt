@@ -31,6 +31,7 @@ pub struct Sending<'a> {
 
 impl Sending<'_> {
     /// Leaves in `out` what is sent, and returns the name, its state and the next id.
+    #[inline(never)]
     pub fn written(self, out: &mut ArrayVec<u8, 576>) -> (Name, State, u16)
         requires fits { Fits (message_of self.message) }
         requires row_count { HasFewRows (message_of self.message) }
@@ -177,6 +178,7 @@ fn slot_due<'a>(
 }
 
 /// The same of the first slot that has something to send.
+#[inline(never)]
 pub fn first_due<'a>(
     slots: &'a [Option<Slot>],
     own: u32,

@@ -81,6 +81,7 @@ fn demanded<'a>(state: &State, last: Moment, rcode: u8) -> Outcome<'a>
 /// What the reply to a registration or a refresh, with this RCODE and id, makes of a name. A hold is counted from the
 /// transaction's first sending, and is `Config::hold` of the seconds that the reply's TTL grants. A conflict demand (RCODE 7) drops a name
 /// that is asked for or held, whatever its id (our profile).
+#[inline(never)]
 pub fn on_registered<'a>(state: &State, rcode: u8, id: u16, seconds: u32) -> Outcome<'a>
     requires { seconds ≤ LONGEST_MOST }
     ensures { (node : NodeValue) (now : ℕ) (name : NameValue) (r : Claim) → r.id ≡ id → granted node.config.longest r.ttl ≡ seconds
@@ -146,6 +147,7 @@ pub fn on_released<'a>(state: &State, rcode: u8, id: u16) -> Outcome<'a>
 }
 
 /// What a WACK with this id and TTL makes of a name: the next sending is put off.
+#[inline(never)]
 pub fn on_wait<'a>(state: &State, id: u16, ttl: u32, now: Moment) -> Outcome<'a>
     ensures { (node : NodeValue) (name n : NameValue) → Move node now name state.now (hear (wait id n ttl)) result.state None (told_of result.event) node.next_id }
 {

@@ -1,8 +1,9 @@
 //! The slots of a node: each is free, or has a name that isn't `Idle`.
 
-ghost use Rattle.std.specs.Prelude.{◌≡◌, map, is_none};
+ghost use Rattle.std.specs.Prelude.{◌≡◌, map, is_none, Some};
 ghost use Rattle.std.specs.List.{position};
 ghost use Rattle.nbt_name.specs.Wire.{same_name};
+ghost use Rattle.nbt_node.specs.declared.state.Slot.{Slot as Kept};
 ghost use Rattle.nbt_node.specs.Node.{state_in, slot_of, settled_slot, is_named, has_room, with_state};
 ghost use Rattle.nbt_node.specs.Settling.{settled};
 
@@ -100,29 +101,45 @@ fn find_free(slots: &[Option<Slot>]) -> Option<usize>
     slots.iter().position(|slot| slot.is_none())
 }
 
-/// The slot of a name in this state. A name that is `Idle` has none.
-fn slot_of(name: &LentName<'_>, state: &State) -> Option<Slot>
-    ensures { result ≡ slot_of name.now state.now }
-{
-    if *state == State::Idle {
-        return None;
-    }
-    Some(Slot {
-        name: name.to_name(),
-        state: *state,
-    })
-}
-
 /// Puts another state into the name's slot, or else into the lowest free one.
 pub fn change(slots: &mut [Option<Slot>], name: &LentName<'_>, state: &State)
     ensures { slots.new ≡ with_state slots.old name.now state.now }
 {
     if let Some(place) = find(slots, name) {
-        slots[place] = slot_of(name, state);
+        set(&mut slots[place], state);
         return;
     }
     let Some(place) = find_free(slots) else {
         return;
     };
-    slots[place] = slot_of(name, state);
+    begin(&mut slots[place], name, state);
+}
+
+/// Gives the name of a slot that isn't free another state. A name that is `Idle` has no slot.
+fn set(slot: &mut Option<Slot>, state: &State)
+    ensures { (kept : Kept) → slot.old ≡ Some kept → slot.new ≡ slot_of kept.name state.now }
+{
+    if *state == State::Idle {
+        *slot = None;
+        return;
+    }
+    if let Some(kept) = slot {
+        kept.state = *state;
+    }
+}
+
+/// Makes a slot that of a name in this state. A name that is `Idle` has none. It stands apart for its room on the stack, which a name whose slot is there doesn't
+/// take.
+#[inline(never)]
+fn begin(slot: &mut Option<Slot>, name: &LentName<'_>, state: &State)
+    ensures { slot.new ≡ slot_of name.now state.now }
+{
+    if *state == State::Idle {
+        *slot = None;
+        return;
+    }
+    *slot = Some(Slot {
+        name: name.to_name(),
+        state: *state,
+    });
 }

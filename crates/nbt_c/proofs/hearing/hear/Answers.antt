@@ -34,8 +34,8 @@ returns-in_default c = (
 
 pub returns-in-Ok : goal.returns-in-Ok
 returns-in-Ok c =
-    let at = c.in-Some.ensures.value in let message = message_if c.read-message.result in let told = told_of c.in-Ok.event in let own = c.handle.new.out.items in
-    let says = says_read c.read-message.result c.args.octets.now c.read-message.ensures in (
+    let at = c.in-Some.ensures.value in let message = message_if c.args.message.now in let told = told_of c.in-Ok.event in let own = c.handle.new.out.items in
+    let says = says_read c.args.message.now c.args.octets.now c.requires in (
       told_of c.answer-event.result,
       message,
       heard_as c.args.node.now c.args.now c.args.from c.args.octets.now c.handle.new.self message told own (told_of c.answer-event.result) c.answer-event.new.out.items

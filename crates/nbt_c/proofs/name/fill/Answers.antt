@@ -1,6 +1,6 @@
 use Rattle.std.proofs.Common.{ℕ, List, ◌++◌, length, drop, replicate, ap, ◌∙◌}
 use Rattle.std.proofs.lemmas.List.{drop-replicate}
-use Rattle.nbt_c.proofs.name.filled.Goals as goal
+use Rattle.nbt_c.proofs.name.fill.Goals as goal
 
 pub returns : goal.returns
 returns c = ap (λ (front : List ℕ). front ++ drop (length c.args.labels.now) (replicate 221 0)) c.copy_from_slice.ensures.after
