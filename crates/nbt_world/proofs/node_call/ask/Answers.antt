@@ -3,7 +3,7 @@ use Rattle.nbt_world.specs.Step.{asks, ask_refused}
 use Rattle.nbt_world.proofs.node_call.ask.Goals as goal
 
 pub returns-in-Ok : goal.returns-in-Ok
-returns-in-Ok c = λ number. rw (← c.requires) (asks number _ _ _ _ _ (sym c.in-Ok.ensures.refused) c.in-Ok.ensures.ok)
+returns-in-Ok c = λ number. rw (← c.requires) (asks number _ _ _ _ _ (rw c.lend.ensures at (sym c.in-Ok.ensures.refused)) (rw c.lend.ensures at c.in-Ok.ensures.ok))
 
 pub returns-in-Err : goal.returns-in-Err
-returns-in-Err c = λ number. rw (c.number.ensures, c.in-Err.ensures.err.0) (ask_refused number _ _ _ _ (sym c.in-Err.ensures.refused))
+returns-in-Err c = λ number. rw (c.number.ensures, c.in-Err.ensures.err.0) (ask_refused number _ _ _ _ (rw c.lend.ensures at (sym c.in-Err.ensures.refused)))
