@@ -8,11 +8,12 @@
 
 #include "rows.h"
 
-/* The most that a call of a group may take: of names and nodes, of sessions, of a name server, and of datagrams. */
-#define OF_NODES 9216
-#define OF_SESSIONS 10240
-#define OF_SERVERS 12288
-#define OF_DATAGRAMS 20480
+/* The most that a call of a group may take: of names, of a node, of sessions, of a name server, and of datagrams. */
+#define OF_NAMES 9728
+#define OF_NODES 3072
+#define OF_SESSIONS 6656
+#define OF_SERVERS 9216
+#define OF_DATAGRAMS 7168
 
 #define PAINT 0xA5
 
@@ -169,9 +170,9 @@ static void takes(const char *what, void (*function)(void), size_t most) {
 }
 
 static void play_nodes(void) {
-    takes("a name is read", read_name, OF_NODES);
-    takes("its scope is written", write_scope, OF_NODES);
-    takes("its wire form is written and read", read_wire, OF_NODES);
+    takes("a name is read", read_name, OF_NAMES);
+    takes("its scope is written", write_scope, OF_NAMES);
+    takes("its wire form is written and read", read_wire, OF_NAMES);
     takes("a node starts", start_node, OF_NODES);
     nbt_server_start(&server, LIMITS, 0);
     now = 3600000 + 10000;
