@@ -224,12 +224,17 @@ fn outcome_of(joined: Joined<'_>) -> Told {
     }
 }
 
-fn put(rt: &impl Abort, joiner: &mut Joiner<1>, ms: u64, dgram: &Dgram<'_>) -> Told {
+fn put<'a>(
+    rt: &impl Abort,
+    joiner: &mut Joiner<1>,
+    ms: u64,
+    dgram: &Dgram<'a>,
+    room: &'a mut Reassembly,
+) -> Told {
     if !dgram.has_data() {
         panic!(rt; "no data");
     }
-    let mut room = Reassembly::new();
-    outcome_of(joiner.put(at(rt, ms), dgram, &mut room))
+    outcome_of(joiner.put(at(rt, ms), dgram, room))
 }
 
 const JOINS: &[(&str, &[u8], &[Step])] = &[
@@ -287,8 +292,9 @@ fn put_patched<R: Abort + AllocGlobal>(
     ms: u64,
 ) -> Told {
     let octets = patched(rt, packet, patches);
+    let mut room = Reassembly::new();
     let (dgram, _) = decode(&octets).expect(rt, "decoded");
-    put(rt, joiner, ms, &dgram)
+    put(rt, joiner, ms, &dgram, &mut room)
 }
 
 /// A step of those of a joiner.
@@ -307,8 +313,10 @@ fn join_step<R: Abort + AllocGlobal>(
         }
         Step::Piece(id, offset, more, expected) => {
             let (source, destination) = (fred(rt, b""), team(rt, b""));
+            let mut room = Reassembly::new();
             let dgram = piece(id, part_at(offset, &source, &destination), more, b"ab");
-            expect_eq_in(rt, &what, &put(rt, joiner, 0, &dgram), &expected);
+            let told = put(rt, joiner, 0, &dgram, &mut room);
+            expect_eq_in(rt, &what, &told, &expected);
         }
         Step::Sweep(ms, emptied) => {
             expect_eq_in(rt, &what, &joiner.sweep(at(rt, ms)), &emptied);
