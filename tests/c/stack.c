@@ -10,7 +10,7 @@
 
 /* The most that a call of a group may take: of names, of a node, of sessions, of a name server, and of datagrams. */
 #define OF_NAMES 9728
-#define OF_NODES 3072
+#define OF_NODES 3584
 #define OF_SESSIONS 6656
 #define OF_SERVERS 9216
 #define OF_DATAGRAMS 7168
