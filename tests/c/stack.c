@@ -117,6 +117,10 @@ static void release(void) {
     nbt_node_release(&node, now, &name, out, &size);
 }
 
+static void ask_status(void) {
+    nbt_node_name_status(&node, now, OTHER, &name, request, &size);
+}
+
 static void serve(void) {
     nbt_server_on_datagram(&server, now, OWN, request, size, response, &second_size);
 }
@@ -190,11 +194,17 @@ static void play_nodes(void) {
     takes("a refresh", poll, OF_NODES);
     takes("a lookup", resolve, OF_NODES);
     takes("a query is answered", hear_query, OF_NODES);
+    response[14] ^= 1;
+    takes("a reply about a name that is not the node's", hear, OF_NODES);
+    is_number("another name", event.kind, NBT_EVENT_NOTHING);
     takes("a server answers a query", serve, OF_SERVERS);
     start_node();
     ask();
     serve();
     hear();
+    takes("a status request is made", ask_status, OF_NODES);
+    takes("a status request is answered", hear_query, OF_NODES);
+    is_number("answered", event.kind, NBT_EVENT_REPLY);
     takes("a release", release, OF_NODES);
     nbt_server_end(&server);
 }

@@ -5,6 +5,7 @@ use Rattle.std.specs.Ptr.{Ptr, lies_at, room_at}
 use denote.Param.{number}
 use Rattle.nbt_dgram.specs.contracts.joiner.Joiner.{the_row as joiner}
 use Rattle.nbt_node.specs.contracts.node.Node.{the_row as node}
+use Rattle.nbt_c.specs.Sizes.{node_slots}
 pub use Rattle.nbt_server.specs.contracts.server.Server.{the_row as server_row}
 pub use Rattle.nbt_session.specs.contracts.caller.Caller.{the_row as caller_row}
 use Rattle.nbt_session.specs.contracts.listener.Listener.{the_row as listener}
@@ -14,9 +15,9 @@ abbrev pub rests_at : (R : RattleType) → Ptr → Option R.Denot → Fml
 rests_at R at None = room_at R at
 rests_at R at (Some value) = lies_at R full_share at value
 
--- a node of 14 slots, a joiner of 4 slots, and a listener of 14 entries and 8 connections, as the prover describes their types; beside a server, a call and a stream, above
+-- a node of the library's number of slots, a joiner of 4 slots, and a listener of 14 entries and 8 connections, as the prover describes their types; beside a server, a call and a stream, above
 abbrev pub node_row : RattleType
-node_row = node (number 14)
+node_row = node (number node_slots)
 
 abbrev pub joiner_row : RattleType
 joiner_row = joiner (number 4)

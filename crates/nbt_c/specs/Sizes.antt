@@ -1,6 +1,10 @@
 -- How many octets of memory each object takes, and how that memory is aligned: the numbers of the header (our profile).
 use Rattle.std.specs.Prelude.{ℕ}
 
+-- how many slots a node has: 14, or 1 or 4 where the library is made for so many
+abbrev pub node_slots : ℕ
+node_slots = 14
+
 abbrev pub node_size : ℕ
 node_size = 4944
 

@@ -11,13 +11,12 @@ ghost use Rattle.nbt_c.specs.Sizes.{joiner_size, object_align};
 
 use crate::buffer::{Octets, put_most, put_packet};
 use crate::ends::CAddr;
-use crate::held::{CJoiner, CNode};
+use crate::held::{CJoiner, CNode, HeldNode};
 use crate::name::CName;
 use crate::results::NO_MOMENT;
 use nbt_dgram::{Accept, Joiner, Reassembly, accept};
 use nbt_lease::Moment;
 use nbt_name::Addr;
-use nbt_node::Node;
 
 /// What a datagram's octets mean for a node, as C sees it. A field that its kind doesn't name stays as it was.
 #[repr(C)]
@@ -105,7 +104,7 @@ pub extern "C" fn nbt_joiner_start(joiner: &mut CJoiner)
 fn hand(
     joiner: &mut Joiner<4>,
     now: u64,
-    node: &Node<14>,
+    node: &HeldNode,
     own: Addr,
     octets: &[u8],
     told: &mut CAccept,

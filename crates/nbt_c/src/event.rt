@@ -1,16 +1,17 @@
 //! What a datagram was to a node, as C sees it.
 
-ghost use Rattle.std.specs.Prelude.{◌≡◌, List, ℕ};
+ghost use Rattle.std.specs.Prelude.{◌≡◌, List, ℕ, None};
 ghost use Rattle.nbt_packet.specs.Message.{message_if};
 ghost use Rattle.nbt_node.specs.Answering.{sent_back};
-ghost use Rattle.nbt_node.specs.Moves.{told_of};
+ghost use Rattle.nbt_node.specs.Moves.{told_of, nothing};
 ghost use Rattle.nbt_c.specs.Events.{event_with, event_for, lent_by, rcode_in, about, octets_back, reported};
 
 use crate::buffer::Octets;
+use crate::held::HeldNode;
 use crate::name::CName;
 use nbt_lease::Moment;
 use nbt_name::LentName;
-use nbt_node::{Event, Node, reply_to};
+use nbt_node::{Event, reply_to};
 use nbt_packet::Message;
 
 /// What a datagram was to a node, as C sees it. A field that its kind doesn't name is 0.
@@ -42,6 +43,14 @@ impl CEvent {
         self.seconds = seconds;
         self.size = size;
         self.name.store(&about(message));
+    }
+
+    /// Becomes nothing. It stands apart for its room on the stack.
+    #[inline(never)]
+    pub(crate) fn become_nothing(&mut self)
+        ensures { self.new ≡ event_for nothing None }
+    {
+        self.report(&Event::Nothing, &None);
     }
 
     /// Becomes what the node reports of a message.
@@ -122,7 +131,7 @@ pub(crate) fn lent_by<'a>(event: &Event<'a>) -> &'a [u8]
 
 /// Leaves in `out`, where the node's own reply stands, if it has one, what is sent back, and nothing else. Returns what is reported.
 pub(crate) fn answer<'a>(
-    node: &Node<14>,
+    node: &HeldNode,
     now: Moment,
     message: &Option<Message<'_>>,
     event: Event<'a>,

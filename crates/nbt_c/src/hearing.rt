@@ -16,17 +16,17 @@ ghost use Rattle.nbt_c.specs.Results.{Puts, PutsMost, TellsTime};
 use crate::buffer::{Octets, put_most, put_packet};
 use crate::ends::{CAddr, kind_number};
 use crate::event::{CEvent, answer, lent_by};
-use crate::held::CNode;
+use crate::held::{CNode, HeldNode};
 use crate::name::CName;
 use crate::results::{NO_MOMENT, NO_NAME, NOTHING_DUE};
 use nbt_lease::Moment;
 use nbt_name::{Addr, Kind};
-use nbt_node::{ClockBack, Event, Node, Standing};
+use nbt_node::{ClockBack, Event, Standing};
 use nbt_packet::{Message, read};
 
 /// Calls `nbt_node::Node::handle` and `nbt_node::reply_to` with what C passes.
 fn hear(
-    node: &mut Node<14>,
+    node: &mut HeldNode,
     now: u64,
     from: Addr,
     octets: &[u8],
@@ -40,7 +40,7 @@ fn hear(
         × (told.new ≡ event_for heard message) × PutsMost (lent_by heard) lent.old lent.new }
 {
     out.clear();
-    told.report(&Event::Nothing, &None);
+    told.become_nothing();
     let Some(now) = Moment::new(now) else {
         return NO_MOMENT;
     };
@@ -95,7 +95,7 @@ pub extern "C" fn nbt_node_on_datagram(
 /// take.
 #[inline(never)]
 fn hear_message(
-    node: &mut Node<14>,
+    node: &mut HeldNode,
     now: u64,
     from: Addr,
     octets: &[u8],
@@ -116,7 +116,7 @@ fn hear_message(
 }
 
 /// Calls `nbt_node::Node::poll` with what C passes.
-fn poll(node: &mut Node<14>, now: u64, to: &mut CAddr, out: &mut Octets) -> u8
+fn poll(node: &mut HeldNode, now: u64, to: &mut CAddr, out: &mut Octets) -> u8
     ensures { (end : Option End) × PollsNode node.old now result node.new end out.new.items × (to.new ≡ end_after to.old end) }
 {
     out.clear();
@@ -178,7 +178,7 @@ fn tell_time(time: Option<u64>, out: &mut u64) -> u8
 }
 
 /// Calls `nbt_node::Node::holds` with what C passes.
-fn holds(node: &Node<14>, now: u64, name: &CName, held: &mut u8) -> u8
+fn holds(node: &HeldNode, now: u64, name: &CName, held: &mut u8) -> u8
     ensures { (kind : Option HeldKind) × Holds node.now now name.now result kind × (held.new ≡ held_number kind) }
 {
     *held = 0;
@@ -213,7 +213,7 @@ pub extern "C" fn nbt_node_holds(node: &mut CNode, now: u64, name: &CName, held:
 }
 
 /// Calls `nbt_node::Node::standing` with what C passes.
-fn stands(node: &Node<14>, now: u64, name: &CName, state: &mut u8) -> u8
+fn stands(node: &HeldNode, now: u64, name: &CName, state: &mut u8) -> u8
     ensures { Stands node.now now name.now state.old result state.new }
 {
     let Some(now) = Moment::new(now) else {

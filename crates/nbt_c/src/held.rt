@@ -17,7 +17,10 @@ use nbt_server::Server;
 use nbt_session::{Caller, Listener, Pieces};
 use std::marker::Model;
 
-/// A node of 14 slots in C's memory.
+/// A node of so many slots as the library is made for: `tools/c_library` puts 1 or 4 here.
+pub(crate) type HeldNode = Node<14>;
+
+/// A node in C's memory.
 #[repr(C)]
 pub struct CNode {
     at: *mut u8,
@@ -34,20 +37,20 @@ impl CNode {
     ghost use Rattle.nbt_c.specs.Lending.{LendsNode};
 
     /// Puts a node into the memory.
-    pub(crate) fn put(&mut self, node: Node<14>)
+    pub(crate) fn put(&mut self, node: HeldNode)
         requires { IsNone self.old.node }
         ensures { self.new.node ≡ Some node }
     {
-        unsafe { (self.at as *mut Node<14>).write(node) };
+        unsafe { (self.at as *mut HeldNode).write(node) };
     }
 
     /// The node that stands there.
-    pub(crate) fn get(&mut self) -> &mut Node<14>
+    pub(crate) fn get(&mut self) -> &mut HeldNode
         requires { IsSome self.old.node }
         ensures* writes_back { sem 𝓛 (LendsNode self.entry result) }
         ensures value { self.old.node ≡ Some result.now }
     {
-        unsafe { &mut *(self.at as *mut Node<14>) }
+        unsafe { &mut *(self.at as *mut HeldNode) }
     }
 }
 

@@ -13,13 +13,12 @@ use crate::buffer::{Octets, put_packet};
 use crate::caller::event_of;
 use crate::ends::CAddr;
 use crate::framing::put_text;
-use crate::held::{CListener, CNode};
+use crate::held::{CListener, CNode, HeldNode};
 use crate::name::CName;
 use crate::packet::CPacket;
 use crate::results::{NO_MOMENT, NO_NAME, NO_PLACE, NO_ROOM};
 use nbt_lease::Moment;
 use nbt_name::Addr;
-use nbt_node::Node;
 use nbt_session::{Entry, Listener, ListenerAnswer};
 use std::alloc::Global;
 
@@ -186,7 +185,7 @@ fn hand(
     alloc: Global,
     listener: &mut Listener<14, 8>,
     now: u64,
-    node: &Node<14>,
+    node: &HeldNode,
     slot: usize,
     happened: u8,
     packet: &CPacket,

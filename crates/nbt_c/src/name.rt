@@ -46,7 +46,8 @@ impl CName {
         Some(name.to_name())
     }
 
-    /// Becomes this name; without one, zeros.
+    /// Becomes this name; without one, zeros. It stands apart for its room on the stack.
+    #[inline(never)]
     pub(crate) fn store(&mut self, name: &Option<LentName<'_>>)
         ensures { self.new ≡ stored_if name.now }
     {

@@ -9,7 +9,7 @@ ghost use Rattle.nbt_c.specs.Results.{Puts};
 
 use crate::buffer::{Octets, put_packet};
 use crate::ends::{CAddr, CConfig};
-use crate::held::CNode;
+use crate::held::{CNode, HeldNode};
 use crate::name::CName;
 use crate::results::{NO_KIND, NO_MOMENT, NO_NAME};
 use nbt_lease::{Config, Moment};
@@ -24,7 +24,7 @@ const FIRST_ID: u16 = 1;
 pub extern "C" fn nbt_node_size() -> usize
     ensures { result ≡ node_size }
 {
-    size_of::<Node<14>>()
+    size_of::<HeldNode>()
 }
 
 /// The alignment of that memory in octets.
@@ -32,7 +32,7 @@ pub extern "C" fn nbt_node_size() -> usize
 pub extern "C" fn nbt_node_align() -> usize
     ensures { result ≡ object_align }
 {
-    align_of::<Node<14>>()
+    align_of::<HeldNode>()
 }
 
 /// `nbt_node::Node::start`: a node of 14 slots at `own`, whose name server is at `server`, stands in the memory. 0; else none does:
@@ -87,7 +87,7 @@ fn kind_of(number: u8) -> Option<Kind>
 }
 
 /// Calls `nbt_node::Node::ask` with what C passes.
-fn ask(node: &mut Node<14>, now: u64, name: &CName, kind: u8, ttl: u32, out: &mut Octets) -> u8
+fn ask(node: &mut HeldNode, now: u64, name: &CName, kind: u8, ttl: u32, out: &mut Octets) -> u8
     ensures { Asks node.old now name.now kind ttl result node.new out.new.items }
 {
     out.clear();
@@ -131,7 +131,7 @@ pub extern "C" fn nbt_node_ask(
 }
 
 /// Calls `nbt_node::Node::release` with what C passes.
-fn release(node: &mut Node<14>, now: u64, name: &CName, out: &mut Octets) -> u8
+fn release(node: &mut HeldNode, now: u64, name: &CName, out: &mut Octets) -> u8
     ensures { GivesBack node.old now name.now result node.new out.new.items }
 {
     out.clear();
@@ -169,7 +169,7 @@ pub extern "C" fn nbt_node_release(
 }
 
 /// Calls `nbt_node::Node::resolve` with what C passes.
-fn resolve(node: &mut Node<14>, now: u64, name: &CName, out: &mut Octets) -> u8
+fn resolve(node: &mut HeldNode, now: u64, name: &CName, out: &mut Octets) -> u8
     ensures { Resolves node.old now name.now result node.new out.new.items }
 {
     out.clear();
@@ -207,7 +207,7 @@ pub extern "C" fn nbt_node_resolve(
 }
 
 /// Calls `nbt_node::Node::name_status` with what C passes.
-fn ask_status(node: &mut Node<14>, now: u64, to: Addr, name: &CName, out: &mut Octets) -> u8
+fn ask_status(node: &mut HeldNode, now: u64, to: Addr, name: &CName, out: &mut Octets) -> u8
     ensures { AsksStatus node.old now to name.now result node.new out.new.items }
 {
     out.clear();

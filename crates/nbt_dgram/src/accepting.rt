@@ -37,6 +37,7 @@ const NOT_PRESENT: u8 = 0x82;
 ///   a group that isn't held, and any other type. Only 0x10 and 0x11 are put to the joiner, so nothing else changes it.
 ///
 /// What is put together from fragments stands in `room`, which lends it. `out` is empty but for `Reply`. RFC 1002 section 5.3.3, in our profile's choice.
+#[inline(never)]
 pub fn accept<'a, const S: usize, const N: usize>(
     joiner: &mut Joiner<S>,
     now: Moment,

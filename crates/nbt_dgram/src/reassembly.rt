@@ -72,7 +72,8 @@ pub struct Reassembly {
 impl Reassembly {
     ghost use Rattle.nbt_dgram.specs.Joiner.{joined_of, whole};
 
-    /// Room for any datagram.
+    /// Room for any datagram. It stands apart for its room on the stack, which the names that are moved there take.
+    #[inline(never)]
     pub fn new() -> Reassembly {
         let blank = LentName::new(&[0; 16], &[]).unwrap();
         Reassembly {
@@ -82,6 +83,14 @@ impl Reassembly {
             },
             data: ArrayVec::new(),
         }
+    }
+
+    /// Makes these the names. It stands apart for its room on the stack.
+    #[inline(never)]
+    pub(crate) fn keep(&mut self, names: &KeptNames)
+        ensures { self.new ≡ record self.old { names = names.now } }
+    {
+        self.names = names.copy();
     }
 
     /// The datagram that stands there.

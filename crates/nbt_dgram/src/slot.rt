@@ -7,7 +7,7 @@ ghost use Rattle.nbt_dgram.specs.Dgram.{fragment_of};
 ghost use Rattle.nbt_dgram.specs.Fragments.{end_of};
 ghost use Rattle.nbt_dgram.specs.Slot.{known_at, fresh, Agrees, joined, IsWhole};
 
-use crate::dgram::{Fragment, Part};
+use crate::dgram::{Fragment, Names as LentNames, Part};
 use crate::known;
 use crate::msg_type::Delivery;
 use crate::reassembly::{KeptNames, Reassembly};
@@ -80,7 +80,7 @@ impl Slot {
         ensures { self.new ≡ joined (fragment_of fragment.now) self.old }
     {
         if let Part::First(names) = &fragment.part {
-            self.names = Some(KeptNames::of(names));
+            keep(&mut self.names, names);
         }
         if !fragment.more {
             self.end = Some(fragment.end());
@@ -101,9 +101,17 @@ impl Slot {
         if end > DATA_MOST || !known::read(&self.octets, end, &mut room.data) {
             return false;
         }
-        room.names = names.copy();
+        room.keep(names);
         true
     }
+}
+
+/// Makes these the names that are known. It stands apart for its room on the stack.
+#[inline(never)]
+fn keep(known: &mut Option<KeptNames>, names: &LentNames<'_>)
+    ensures { known.new ≡ Some names.now }
+{
+    *known = Some(KeptNames::of(names));
 }
 
 /// Whether a first fragment's names are those that are known.

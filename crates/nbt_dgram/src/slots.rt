@@ -4,6 +4,7 @@ ghost use Rattle.std.specs.Prelude.{◌≡◌, ◌<◌, ◌≤◌, length, map, 
 ghost use Rattle.std.specs.List.{position, All};
 ghost use Rattle.nbt_dgram.specs.Dgram.{fragment_of};
 ghost use Rattle.nbt_dgram.specs.Fragments.{end_of};
+ghost use Rattle.nbt_dgram.specs.Slot.{fresh, joined};
 ghost use Rattle.nbt_dgram.specs.Joiner as spec;
 ghost use Rattle.nbt_dgram.specs.Joiner.{kept, emptied, is_free, Joins};
 ghost use Rattle.nbt_dgram.specs.declared.reassembly.Reassembly.{Reassembly as Room};
@@ -11,6 +12,7 @@ ghost use Rattle.nbt_dgram.specs.Inner.Joining.{led_to, JoinsSlot, HasRoom, IsTa
 
 use crate::dgram::Fragment;
 use crate::joined::{Dropped, Step};
+use crate::msg_type::Delivery;
 use crate::reassembly::Reassembly;
 use crate::slot::{Key, Slot};
 use crate::splitting::DATA_MOST;
@@ -92,10 +94,30 @@ fn begin(slots: &mut [Option<Slot>], now: Moment, key: Key, fragment: &Fragment<
     let Some(place) = find_free(slots) else {
         return Step::Dropped(Dropped::Full);
     };
-    let mut slot = Slot::new(key, now, fragment.delivery);
-    slot.join(fragment);
-    slots[place] = Some(slot);
+    begin_at(&mut slots[place], now, key, fragment);
     Step::Waiting
+}
+
+/// Makes a free slot that of the datagram which this fragment begins.
+fn begin_at(slot: &mut Option<Slot>, now: Moment, key: Key, fragment: &Fragment<'_>)
+    requires { end_of (fragment_of fragment.now) ≤ 512 }
+    ensures { slot.new ≡ Some (joined (fragment_of fragment.now) (fresh key now fragment.now.delivery)) }
+{
+    open(slot, now, key, fragment.delivery);
+    match slot {
+        Some(slot) => slot.join(fragment),
+        None => unreachable!(),
+    }
+}
+
+/// Makes a slot that of a datagram of which nothing is known but the type. It stands apart for its room on the stack, which joining a
+/// fragment doesn't take.
+#[inline(never)]
+fn open(slot: &mut Option<Slot>, now: Moment, key: Key, delivery: Delivery)
+    ensures slot { slot.new ≡ Some (fresh key now delivery) }
+    ensures room { HasRoom slot.new }
+{
+    *slot = Some(Slot::new(key, now, delivery));
 }
 
 /// Joins a fragment to the slot in this place.

@@ -8,18 +8,18 @@ use crate::event::Event;
 use crate::fault::{AskFault, ClockBack, LookupFault, ReleaseFault};
 use crate::lookup::{Lookup, Wanted, is_same_end};
 use crate::polling::first_due;
-use crate::replies::{on_registered, on_released, on_wait};
+use crate::replies::{Outcome, on_registered, on_released, on_wait};
 use crate::settling::is_resting;
 use crate::slots;
 use crate::standing::Standing;
 use crate::state::{Slot, State};
-use crate::status::{listed, write_names};
+use crate::status::write_listed;
 use crate::transaction::{Transaction, next_due};
 use crate::waiting::{earlier, lookup_next_due, slots_next_due};
 use arrayvec::ArrayVec;
 use nbt_lease::{Config, Moment};
 use nbt_name::{Addr, Kind, LentName};
-use nbt_packet::{Message, read, write};
+use nbt_packet::{Message, Registration, read, write};
 use std::marker::Model;
 
 /// The id of the first request of a node that isn't given another (our profile).
@@ -50,7 +50,10 @@ impl<const N: usize> Model for Node<N> {
 }
 
 impl<const N: usize> Node<N> {
-    ghost use Rattle.nbt_packet.specs.Message.{MessageValue, message_of, message_if};
+    ghost use Rattle.nbt_name.specs.declared.addr.Kind.{Kind as NameKind};
+    ghost use Rattle.nbt_packet.specs.Message.{MessageValue, message_of, message_if, registered, released, wait};
+    ghost use Rattle.nbt_lease.specs.Config.{granted};
+    ghost use Rattle.nbt_lease.specs.declared.config.TheConstants.{LONGEST_MOST};
     ghost use Rattle.nbt_node.specs.Node.{slots_most, holds, changed, settled_node, state_at, lookup_open, AreDistinct};
     ghost use Rattle.nbt_node.specs.Moves.{Move, ask, give_back, hear, told_of};
     ghost use Rattle.nbt_packet.specs.Spelling.{AreWritten};
@@ -283,9 +286,11 @@ impl<const N: usize> Node<N> {
         if now.get() < self.last.get() {
             return Err(ClockBack);
         }
-        match first_due(&self.slots, self.addr.ip, self.next_id, self.config, now) {
+        match &first_due(&self.slots, self.addr.ip, self.next_id, self.config, now) {
             Some(sending) => {
-                let (name, state, next_id) = sending.written(out);
+                sending.put(out);
+                let name = sending.kept_name();
+                let (state, next_id) = (sending.state, sending.next_id);
                 self.change(now, &name.lend(), &state, next_id);
                 Ok(Some(self.server))
             }
@@ -470,28 +475,14 @@ impl<const N: usize> Node<N> {
             Message::Registered {
                 rcode,
                 registration,
-            } => {
-                let name = &registration.name;
-                let state = self.state_at(now, name);
-                let seconds = self.config.granted(registration.ttl);
-                let outcome = on_registered(&state, *rcode, registration.id, seconds);
-                self.hear(now, from, name, &outcome.state, outcome.event)
-            }
+            } => self.take_registered(now, from, *rcode, registration),
             Message::Released {
                 id,
                 rcode,
                 name,
                 ..
-            } => {
-                let state = self.state_at(now, name);
-                let outcome = on_released(&state, *rcode, *id);
-                self.hear(now, from, name, &outcome.state, outcome.event)
-            }
-            Message::Wait { id, name, ttl } => {
-                let state = self.state_at(now, name);
-                let outcome = on_wait(&state, *id, *ttl, now);
-                self.hear(now, from, name, &outcome.state, outcome.event)
-            }
+            } => self.take_released(now, from, *id, *rcode, name),
+            Message::Wait { id, name, ttl } => self.take_wait(now, from, *id, name, *ttl),
             Message::StatusRequest { id, name } => self.list_names(now, *id, name, out),
             Message::Found { entries, cut, .. } => {
                 let found = Event::Found { entries, cut: *cut };
@@ -515,6 +506,99 @@ impl<const N: usize> Node<N> {
         }
     }
 
+    /// The reply to a registration or a refresh.
+    #[inline(never)]
+    fn take_registered<'a>(
+        &mut self,
+        now: Moment,
+        from: Addr,
+        rcode: u8,
+        registration: &Registration<'_>,
+    ) -> Event<'a>
+        requires { self.old.last ≤ now }
+        ensures { NodeHears self.old now from registration.now.name (registered rcode registration.now) self.new None (told_of result) }
+    {
+        let seconds = self.config.granted(registration.ttl);
+        let outcome = self.after_registered(now, rcode, registration, seconds);
+        self.hear(now, from, &registration.name, &outcome.state, outcome.event)
+    }
+
+    /// What that reply makes of its name, if it is the server's and grants these seconds. It stands apart for its room on the stack, as
+    /// those below, which the change of the name's state doesn't take.
+    #[inline(never)]
+    fn after_registered<'a>(
+        &self,
+        now: Moment,
+        rcode: u8,
+        registration: &Registration<'_>,
+        seconds: u32,
+    ) -> Outcome<'a>
+        requires bound { seconds ≤ LONGEST_MOST }
+        requires granted { granted self.now.config.longest registration.now.ttl ≡ seconds }
+        ensures { Move self.now now registration.now.name (state_at self.now now registration.now.name) (hear (registered rcode registration.now)) result.state None (told_of result.event) self.now.next_id }
+    {
+        let state = self.state_at(now, &registration.name);
+        on_registered(&state, rcode, registration.id, seconds)
+    }
+
+    /// The reply to a release.
+    #[inline(never)]
+    fn take_released<'a>(
+        &mut self,
+        now: Moment,
+        from: Addr,
+        id: u16,
+        rcode: u8,
+        name: &LentName<'_>,
+    ) -> Event<'a>
+        requires { self.old.last ≤ now }
+        ensures { (kind : NameKind) (addr : ℕ) → NodeHears self.old now from name.now (released id rcode name.now kind addr) self.new None (told_of result) }
+    {
+        let outcome = self.after_released(now, id, rcode, name);
+        self.hear(now, from, name, &outcome.state, outcome.event)
+    }
+
+    /// What that reply makes of its name, if it is the server's.
+    #[inline(never)]
+    fn after_released<'a>(
+        &self,
+        now: Moment,
+        id: u16,
+        rcode: u8,
+        name: &LentName<'_>,
+    ) -> Outcome<'a>
+        ensures { (kind : NameKind) (addr : ℕ) → Move self.now now name.now (state_at self.now now name.now) (hear (released id rcode name.now kind addr)) result.state None (told_of result.event) self.now.next_id }
+    {
+        let state = self.state_at(now, name);
+        on_released(&state, rcode, id)
+    }
+
+    /// A WACK.
+    #[inline(never)]
+    fn take_wait<'a>(
+        &mut self,
+        now: Moment,
+        from: Addr,
+        id: u16,
+        name: &LentName<'_>,
+        ttl: u32,
+    ) -> Event<'a>
+        requires { self.old.last ≤ now }
+        ensures { NodeHears self.old now from name.now (wait id name.now ttl) self.new None (told_of result) }
+    {
+        let outcome = self.after_wait(now, id, name, ttl);
+        self.hear(now, from, name, &outcome.state, outcome.event)
+    }
+
+    /// What it makes of its name, if it is the server's.
+    #[inline(never)]
+    fn after_wait<'a>(&self, now: Moment, id: u16, name: &LentName<'_>, ttl: u32) -> Outcome<'a>
+        ensures { Move self.now now name.now (state_at self.now now name.now) (hear (wait id name.now ttl)) result.state None (told_of result.event) self.now.next_id }
+    {
+        let state = self.state_at(now, name);
+        on_wait(&state, id, ttl, now)
+    }
+
     /// A status request. The names are those of the node that is settled at `now`.
     #[inline(never)]
     fn list_names<'a>(
@@ -533,12 +617,12 @@ impl<const N: usize> Node<N> {
         if !is_listed_for {
             return Event::Nothing;
         }
-        let names = listed(&self.slots, name);
-        write_names(id, name, names.as_slice(), out);
+        write_listed(&self.slots, id, name, out);
         Event::Reply
     }
 
     /// Whether a status request for this name is replied to.
+    #[inline(never)]
     fn is_listed_for(&self, now: Moment, name: &LentName<'_>) -> bool
         ensures { result ≡ is_listed_for self.now now name.now }
     {

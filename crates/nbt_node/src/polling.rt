@@ -30,16 +30,22 @@ pub struct Sending<'a> {
 }
 
 impl Sending<'_> {
-    /// Leaves in `out` what is sent, and returns the name, its state and the next id.
+    /// Leaves in `out` what is sent.
     #[inline(never)]
-    pub fn written(self, out: &mut ArrayVec<u8, 576>) -> (Name, State, u16)
-        requires fits { Fits (message_of self.message) }
-        requires row_count { HasFewRows (message_of self.message) }
-        ensures kept { result ≡ (self.entry.name, self.entry.state, self.entry.next_id) }
-        ensures written { AreWritten (Some (message_of self.entry.message)) out.new.items }
+    pub fn put(&self, out: &mut ArrayVec<u8, 576>)
+        requires fits { Fits (message_of self.now.message) }
+        requires row_count { HasFewRows (message_of self.now.message) }
+        ensures { AreWritten (Some (message_of self.now.message)) out.new.items }
     {
         write(&self.message, out);
-        (self.name.to_name(), self.state, self.next_id)
+    }
+
+    /// The name, which borrows nothing.
+    #[inline(never)]
+    pub fn kept_name(&self) -> Name
+        ensures { result ≡ self.now.name }
+    {
+        self.name.to_name()
     }
 }
 

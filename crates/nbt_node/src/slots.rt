@@ -40,6 +40,7 @@ fn settle_slot(slot: &mut Option<Slot>, config: Config, now: Moment)
 }
 
 /// Settles every name at `now`.
+#[inline(never)]
 pub fn settle(slots: &mut [Option<Slot>], config: Config, now: Moment)
     ensures { slots.new ≡ map (settled_slot config.life now) slots.old }
 {
@@ -128,9 +129,7 @@ fn set(slot: &mut Option<Slot>, state: &State)
     }
 }
 
-/// Makes a slot that of a name in this state. A name that is `Idle` has none. It stands apart for its room on the stack, which a name whose slot is there doesn't
-/// take.
-#[inline(never)]
+/// Makes a slot that of a name in this state. A name that is `Idle` has none.
 fn begin(slot: &mut Option<Slot>, name: &LentName<'_>, state: &State)
     ensures { slot.new ≡ slot_of name.now state.now }
 {
@@ -138,6 +137,15 @@ fn begin(slot: &mut Option<Slot>, name: &LentName<'_>, state: &State)
         *slot = None;
         return;
     }
+    fill(slot, name, state);
+}
+
+/// The same of a state that isn't `Idle`. It stands apart for its room on the stack, which a name whose slot is there, and one that
+/// gets none, don't take.
+#[inline(never)]
+fn fill(slot: &mut Option<Slot>, name: &LentName<'_>, state: &State)
+    ensures { slot.new ≡ Some (record { name = name.now; state = state.now }) }
+{
     *slot = Some(Slot {
         name: name.to_name(),
         state: *state,

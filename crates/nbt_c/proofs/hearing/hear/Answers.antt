@@ -28,7 +28,7 @@ returns-in_default c = (
   nothing,
   None,
   given (λ n node octets. Hears c.args.node.now c.args.now c.args.from c.args.octets.now n node nothing None octets) refl refl c.clear.ensures (is.Hears.has_no_moment (above c.in_default.ensures.found)),
-  c.report.ensures,
+  c.become_nothing.ensures,
   no_octets c.args.lent.now,
 )
 
@@ -43,7 +43,7 @@ returns-in-Ok c =
           (subst (λ m. Handles c.args.node.now m c.args.from c.args.octets.now c.handle.new.self told own) at (c.in-Ok.ensures.ok c.args.octets.now says))
           (subst (λ m. told_of c.answer-event.result ≡ reported told (sent_back c.handle.new.self m message told own)) at c.answer-event.ensures.told)
           (subst (λ m. c.answer-event.new.out.items ≡ octets_back (sent_back c.handle.new.self m message told own)) at c.answer-event.ensures.octets),
-      c.report-in-Ok.ensures,
+      c.report.ensures,
       subst (λ (octets : List ℕ). PutsMost octets c.args.lent.now c.put_most.new.out) c.lent_by.ensures c.put_most.ensures,
     )
 
@@ -53,6 +53,6 @@ returns-in-Err c = (
   None,
   given (λ n node octets. Hears c.args.node.now c.args.now c.args.from c.args.octets.now n node nothing None octets) c.number.ensures c.in-Err.ensures.err.0 c.in-Err.ensures.err.1
       (is.Hears.is_late (c.in-Some.ensures.found.0 refl) (subst (λ m. m < c.args.node.now.last) c.in-Some.ensures.value (c.in-Err.ensures.refused.0 refl))),
-  c.report.ensures,
+  c.become_nothing.ensures,
   no_octets c.args.lent.now,
 )

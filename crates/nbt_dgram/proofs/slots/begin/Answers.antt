@@ -6,4 +6,4 @@ pub returns-in_default : goal.returns-in_default
 returns-in_default c room = no_place (sym c.in_default.ensures)
 
 pub returns : goal.returns
-returns c room = rw (c.join.ensures, c.new-slot.ensures) (in_place c.in-Some.place (sym c.in-Some.ensures))
+returns c room = rw c.begin_at.ensures (in_place c.in-Some.place (sym c.in-Some.ensures))

@@ -1,4 +1,4 @@
-use Rattle.std.proofs.Common.{◌≡◌, ℕ, List, Some, None, sym, ap, subst, ◌∙◌}
+use Rattle.std.proofs.Common.{Some, None, sym, subst, ◌∙◌}
 use Rattle.std.specs.List.{flat_map}
 use Rattle.nbt_packet.specs.Message.{status}
 use Rattle.nbt_node.specs.Node.{NodeValue}
@@ -11,14 +11,8 @@ returns-then-not-is_listed_for g c =
     (None, lists_nothing c.settle.new.self (sym c.if-not-is_listed_for.ensures) c.settle.ensures.node, c.requires.empty)
 
 pub returns : goal.returns
-returns g c =
-    let old : NodeValue = c.args.self.now in
-    let names_are : c.as_slice.result.now ≡ names_listed old c.args.now c.args.name.now =
-    c.as_slice.ensures.value
-    ∙ c.listed-names.ensures.names
-    ∙ ap (λ (n : NodeValue). flat_map (listed c.args.name.now.scope) n.slots) (c.self.view_is ∙ c.settle.ensures.node)
-    in (
-      Some (status c.args.id c.args.name.now (names_listed old c.args.now c.args.name.now)),
-      lists_names c.settle.new.self (sym c.if-not-is_listed_for.ensures) c.settle.ensures.node,
-      subst (λ (names : List ℕ). AreWritten (Some (status c.args.id c.args.name.now names)) c.write_names.new.out.items) names_are c.write_names.ensures,
-    )
+returns g c = (
+  Some (status c.args.id c.args.name.now (names_listed c.args.self.now c.args.now c.args.name.now)),
+  lists_names c.settle.new.self (sym c.if-not-is_listed_for.ensures) c.settle.ensures.node,
+  subst (λ (n : NodeValue). AreWritten (Some (status c.args.id c.args.name.now (flat_map (listed c.args.name.now.scope) n.slots))) c.write_listed.new.out.items) (c.self.view_is ∙ c.settle.ensures.node) c.write_listed.ensures,
+)

@@ -1,29 +1,17 @@
-use Rattle.std.proofs.Common.{◌≡◌, None, refl, sym, ap, subst, ◌∙◌, inl, inr}
-use Rattle.nbt_packet.specs.declared.message.Registration.{Registration}
-use Rattle.nbt_lease.specs.Config.{granted}
-use Rattle.nbt_node.specs.Node.{NodeValue}
+use Rattle.std.proofs.Common.{◌≡◌, None, ap, subst, inl, inr}
 use Rattle.nbt_packet.specs.Message.{MessageValue, found, not_found, status, message_of}
 use Rattle.nbt_node.specs.Datagrams.{Ends, Idles, idles}
 use Rattle.nbt_node.specs.Moves.{told_of, finds, finds_none, lists, nothing}
 use Rattle.nbt_node.proofs.node.Node.take.Goals as goal
 
 pub returns-in-Registered : goal.returns-in-Registered
-returns-in-Registered g c =
-    let old : NodeValue = c.args.self.now in
-    let r : Registration = c.in-Registered.registration in
-    let seconds : granted old.config.longest r.ttl ≡ c.granted-seconds.result = sym (c.granted-seconds.ensures.value ∙ ap (λ (n : NodeValue). granted n.config.longest r.ttl) c.self.view_is) in
-    let move = rw c.state_at-state.ensures at (c.on_registered-outcome.ensures old c.args.now r.name r refl seconds) in
-    (None, rw c.in-Registered.is (c.hear.ensures _ move), c.requires.empty)
+returns-in-Registered g c = (None, rw c.in-Registered.is c.take_registered.ensures, c.requires.empty)
 
 pub returns-in-Released : goal.returns-in-Released
-returns-in-Released g c =
-    let move = rw c.state_at-state-in-Released.ensures at (c.on_released-outcome.ensures c.args.self.now c.args.now c.in-Released.name c.in-Released.name c.in-Released.kind c.in-Released.addr) in
-    (None, rw c.in-Released.is (c.hear-in-Released.ensures _ move), c.requires.empty)
+returns-in-Released g c = (None, rw c.in-Released.is (c.take_released.ensures c.in-Released.kind c.in-Released.addr), c.requires.empty)
 
 pub returns-in-Wait : goal.returns-in-Wait
-returns-in-Wait g c =
-    let move = rw c.state_at-state-in-Wait.ensures at (c.on_wait-outcome.ensures c.args.self.now c.in-Wait.name c.in-Wait.name) in
-    (None, rw c.in-Wait.is (c.hear-in-Wait.ensures _ move), c.requires.empty)
+returns-in-Wait g c = (None, rw c.in-Wait.is c.take_wait.ensures, c.requires.empty)
 
 pub returns-in-StatusRequest : goal.returns-in-StatusRequest
 returns-in-StatusRequest g c = (c.list_names.ensures.0, rw c.in-StatusRequest.is c.list_names.ensures.1, c.list_names.ensures.2)
