@@ -193,7 +193,16 @@ enum {
 /* The most octets of a packet over UDP (RFC 1002 section 6). */
 #define NBT_PACKET 576
 
-/* ---- a node of 14 slots (RFC 1001 section 15): it takes no memory but what the program provides */
+/* ---- a node (RFC 1001 section 15): it takes no memory but what the program provides */
+
+/*
+ * How many names a node has at most, those that are being released or rest among them: 14. A program whose library was made for 1 or 4
+ * (tools/c_library --names) sets this number before it includes this file. The calls that start a node have other names in such a
+ * library, so that no program gives a node less memory than it takes: it doesn't link.
+ */
+#ifndef NBT_NODE_NAMES
+#define NBT_NODE_NAMES 14
+#endif
 
 /*
  * A node: `memory` leads to nbt_node_size() octets, aligned to nbt_node_align(), which are the node's from its start on and which
@@ -207,7 +216,19 @@ struct nbt_node {
 };
 
 /* A node's memory: what the two functions return, and a type of that size and alignment, so that it can be static. */
+#if NBT_NODE_NAMES == 14
 #define NBT_NODE_SIZE 4944
+#elif NBT_NODE_NAMES == 4
+#define NBT_NODE_SIZE 1664
+#define nbt_node_start nbt_node_start_of_4
+#define nbt_node_start_from nbt_node_start_from_of_4
+#elif NBT_NODE_NAMES == 1
+#define NBT_NODE_SIZE 680
+#define nbt_node_start nbt_node_start_of_1
+#define nbt_node_start_from nbt_node_start_from_of_1
+#else
+#error "NBT_NODE_NAMES is 1, 4 or 14"
+#endif
 #define NBT_NODE_ALIGN 8
 union nbt_node_memory {
     uint64_t aligned;
