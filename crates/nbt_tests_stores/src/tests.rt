@@ -15,6 +15,7 @@ mod restarts;
 mod resuming;
 mod stage;
 mod store;
+mod waiting;
 
 /// The sixteen octets of names: FRED's and TEAM's, filled with spaces.
 const FRED: &[u8; 16] = b"FRED            ";

@@ -206,7 +206,7 @@ fn header(rt: &impl Abort) -> Header {
 }
 
 /// A store over a disk in memory that has this trouble.
-fn store<R: Abort + AllocGlobal>(
+pub fn store<R: Abort + AllocGlobal>(
     rt: &R,
     trouble: Option<(usize, Trouble)>,
 ) -> DiskStore<MemoryDisk> {
