@@ -4,7 +4,7 @@ use Rattle.nbt_name.specs.declared.addr.Addr.{Addr}
 use Rattle.nbt_name.specs.declared.addr.Kind.{Kind}
 use Rattle.nbt_lease.specs.Config.{last_moment}
 use Rattle.nbt_packet.specs.Message.{MessageValue}
-use Rattle.nbt_node.specs.Node.{NodeValue, slots_most, holds}
+use Rattle.nbt_node.specs.Node.{NodeValue, holds}
 use Rattle.nbt_node.specs.Calls.{started_from, started, ask_refusal, release_refusal, resolve_refusal, status_refusal, Sends, Opens, Polls}
 use Rattle.nbt_node.specs.declared.fault.AskFault.{AskFault}
 use Rattle.nbt_node.specs.declared.fault.ReleaseFault.{ReleaseFault}
@@ -24,12 +24,13 @@ use Rattle.nbt_c.specs.Names.{HoldsName, name_in}
 use Rattle.nbt_c.specs.declared.ends.CAddr.{CAddr}
 use Rattle.nbt_c.specs.Ends.{addr_for, kind_number, kind_of, StartsWith}
 use Rattle.nbt_c.specs.Events.{octets_back, reported}
+use Rattle.nbt_c.specs.Sizes.{node_slots}
 
 abbrev pub Starts : (own server : Addr) (config : CConfig) (now : ℕ) → ℕ → Option NodeValue → Type 0
-Starts own server config now = StartsWith (λ limits node. node ≡ started slots_most own server limits now) config now
+Starts own server config now = StartsWith (λ limits node. node ≡ started node_slots own server limits now) config now
 
 abbrev pub StartsFrom : (own server : Addr) (config : CConfig) (now first_id : ℕ) → ℕ → Option NodeValue → Type 0
-StartsFrom own server config now first_id = StartsWith (λ limits node. node ≡ started_from slots_most own server limits now first_id) config now
+StartsFrom own server config now first_id = StartsWith (λ limits node. node ≡ started_from node_slots own server limits now first_id) config now
 
 pub data Asks (old : NodeValue) (now : ℕ) (held : CName) (kind ttl : ℕ) : ℕ → NodeValue → List ℕ → Type 0 where
   asks : (k : Kind) (new : NodeValue) (octets : List ℕ) → now ≤ last_moment → HoldsName held → kind_of kind ≡ Some k → ask_refusal old now (name_in held) ≡ None

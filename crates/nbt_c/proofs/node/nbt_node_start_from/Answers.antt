@@ -1,7 +1,7 @@
 use Rattle.std.proofs.Common.{Err, refl, ap, ◌∙◌}
-use Rattle.nbt_node.specs.Node.{slots_most}
 use Rattle.nbt_node.specs.Calls.{started_from}
 use Rattle.nbt_c.specs.Ends.{starts, has_no_moment}
+use Rattle.nbt_c.specs.Sizes.{node_slots}
 use Rattle.nbt_c.proofs.Calls.{above, none_of, answers, refused}
 use Rattle.nbt_c.proofs.node.nbt_node_start_from.Goals as goal
 
@@ -20,4 +20,4 @@ returns c =
     let found = c.in-Ok.ensures.found.0 refl in
     answers refl c.put.ensures
     (starts c.start_from.result found.0 found.1 found.2 (c.in-Some.ensures.found.0 refl)
-    (c.start_from.ensures ∙ (λ i. started_from slots_most (c.addr.ensures i) (c.addr-2.ensures i) (c.in-Ok.ensures.value i) (c.in-Some.ensures.value i) c.args.first_id)))
+    (c.start_from.ensures ∙ (λ i. started_from node_slots (c.addr.ensures i) (c.addr-2.ensures i) (c.in-Ok.ensures.value i) (c.in-Some.ensures.value i) c.args.first_id)))
