@@ -1,4 +1,4 @@
-/* Rows of a node of 14 slots: asked, granted, held, found, polled and given back, with what a name server would send. */
+/* Rows of a node: asked, granted, held, found, polled and given back, with what a name server would send. */
 #include <nbt.h>
 #include <stdlib.h>
 
@@ -270,8 +270,12 @@ static void play_ids(struct nbt_node *node, const struct nbt_name *name, const s
     is_number("an old grant", event.kind, NBT_EVENT_NOTHING);
     is_number("an old grant", nbt_node_holds(node, 22006, name, &none), NBT_DONE);
     is_number("an old grant", none, 0);
-    is_number("0 follows", nbt_node_ask(node, 22007, other, NBT_UNIQUE, 300, out, &size), NBT_DONE);
-    is_number("0 follows", id_of(out), 0);
+    if (NBT_NODE_NAMES == 1) {
+        is_number("full", nbt_node_ask(node, 22007, other, NBT_UNIQUE, 300, out, &size), NBT_ASK_FULL);
+    } else {
+        is_number("0 follows", nbt_node_ask(node, 22007, other, NBT_UNIQUE, 300, out, &size), NBT_DONE);
+        is_number("0 follows", id_of(out), 0);
+    }
 }
 
 int main(void) {
