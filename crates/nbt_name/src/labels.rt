@@ -99,17 +99,15 @@ impl<'a> Labels<'a> {
         count
     }
 
-    /// The labels in a list of their own.
-    pub(crate) fn collected(self) -> ArrayVec<u8, 221>
-        requires { length self ≤ 221 }
-        ensures { result.items ≡ self.entry }
+    /// Appends them to a list.
+    pub(crate) fn put<const CAP: usize>(self, out: &mut ArrayVec<u8, CAP>)
+        requires { length out.old.items + length self ≤ CAP }
+        ensures { out.new.items ≡ out.old.items ++ self.entry }
     {
         let mut labels = self;
-        let mut copy = ArrayVec::new();
         'labels: while let Some(label) = labels.next() {
-            copy.try_extend_from_slice(label).unwrap();
+            out.try_extend_from_slice(label).unwrap();
         }
-        copy
     }
 
     /// Whether they are these.

@@ -91,11 +91,14 @@ impl<'a> LentName<'a> {
         }
     }
 
-    /// An equal name that borrows nothing.
+    /// An equal name that borrows nothing. It stands apart for its room on the stack, which a caller takes once.
+    #[inline(never)]
     pub fn to_name(&self) -> Name
         ensures { result ≡ self.now }
     {
-        Name::from_parts(self.octets, self.scope.copy().collected())
+        let mut name = Name::blank();
+        name.set(self);
+        name
     }
 
     /// Whether it is the same name as another one.
@@ -142,6 +145,14 @@ impl Name {
             octets: *self.octets(),
             scope: Labels::of_scope(self.scope()),
         }
+    }
+
+    /// Becomes an equal name to one that is lent, where it stands: no other name is made.
+    #[inline(never)]
+    pub fn set(&mut self, name: &LentName<'_>)
+        ensures { self.new ≡ name.now }
+    {
+        self.become_name(&name.octets, name.scope.copy());
     }
 }
 

@@ -70,12 +70,31 @@ impl Name {
         Ok(LentName::new(&octets, scope)?.to_name())
     }
 
-    /// The name of sixteen octets and a scope, also one that begins with 0x2A.
-    pub(crate) fn from_parts(octets: [u8; 16], scope: ArrayVec<u8, 221>) -> Name
-        requires { IsName (name_of octets scope.items) }
-        ensures { result ≡ name_of octets scope.items }
+    /// Room for a name that is set: sixteen zero octets, without a scope.
+    pub fn blank() -> Name
+        ensures { result ≡ name_of (replicate 16 0) [] }
     {
-        Name { octets, scope }
+        Name::without_scope(&[0; 16])
+    }
+
+    /// The name of sixteen octets without a scope, also one that begins with 0x2A.
+    fn without_scope(octets: &[u8; 16]) -> Name
+        ensures { result ≡ name_of octets.now [] }
+    {
+        Name {
+            octets: *octets,
+            scope: ArrayVec::new(),
+        }
+    }
+
+    /// Becomes the name of sixteen octets and a scope, also one that begins with 0x2A.
+    pub(crate) fn become_name(&mut self, octets: &[u8; 16], scope: Labels<'_>)
+        requires { IsName (name_of octets.now scope) }
+        ensures { self.new ≡ name_of octets.now scope.entry }
+    {
+        self.octets = *octets;
+        self.scope.clear();
+        scope.put(&mut self.scope);
     }
 
     /// The sixteen octets.
@@ -153,10 +172,7 @@ pub(crate) fn put_form<const CAP: usize>(
 {
     out.push(LETTERS);
     out.try_extend_from_slice(&letters_of(octets)).unwrap();
-    let mut labels = scope;
-    'labels: while let Some(label) = labels.next() {
-        out.try_extend_from_slice(label).unwrap();
-    }
+    scope.put(out);
     out.push(0);
 }
 

@@ -1,4 +1,4 @@
-use Rattle.std.proofs.Common.{◌≡◌, ◌+◌, ◌≤◌, length}
+use Rattle.std.proofs.Common.{◌≡◌, ◌+◌, length}
 use Rattle.nbt_name.proofs.labels.Labels.len.Given as goal
 
 abbrev pub invariant-labels : goal.invariant-labels

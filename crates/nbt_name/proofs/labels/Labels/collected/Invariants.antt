@@ -1,8 +1,0 @@
-use Rattle.std.proofs.Common.{◌≡◌, ◌++◌, length}
-use Rattle.nbt_name.proofs.labels.Labels.collected.Given as goal
-
-abbrev pub invariant-labels : goal.invariant-labels
-invariant-labels l = l.copy.items ++ l.labels ≡ l.fn.self
-
-abbrev pub decreases-labels : goal.decreases-labels
-decreases-labels l = length l.labels
