@@ -14,7 +14,7 @@ use Rattle.nbt_node.specs.Inner.Sending.{IsSending}
 use Rattle.nbt_name.proofs.Same.{same_name-same, name_tells}
 use Rattle.nbt_node.proofs.Known.{slot_tells}
 
-module _ (life now own id : ℕ) where
+module _ (life now id : ℕ) where
   first_here : (name : NameValue) (state : State) → is_due life now state ≡ true → (rest : List (Option Slot)) → first_due life now (slot_of name state ∷ rest) ≡ Some (record { name = name; state = state })
   first_here name state due rest = elim (slot_tells name state) [
     | inl idle ↦ absurd (true≢false (sym due ∙ ap (is_due life now) idle.0))
@@ -22,8 +22,8 @@ module _ (life now own id : ℕ) where
   ]
 
   pub due_slot : (kept : Slot) (state : State) (sending : Option Sending) → state ≡ settled life now kept.state → is_some sending ≡ is_due life now state
-      → IfSome sending (λ s. IsSending life now own id kept.name state s)
-      → IfSome sending (λ s. (x : Slot) × ((rest : List (Option Slot)) → first_due life now (slot_of kept.name (settled life now kept.state) ∷ rest) ≡ Some x) × IsSending life now own id x.name x.state s)
+      → IfSome sending (λ s. IsSending life now id kept.name state s)
+      → IfSome sending (λ s. (x : Slot) × ((rest : List (Option Slot)) → first_due life now (slot_of kept.name (settled life now kept.state) ∷ rest) ≡ Some x) × IsSending life now id x.name x.state s)
   due_slot kept state None is due sends = tt
   due_slot kept state (Some s) is due sends =
       (record { name = kept.name; state = state }, λ rest. rw (← is) (first_here kept.name state (sym due) rest), sends)

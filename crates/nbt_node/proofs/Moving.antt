@@ -7,7 +7,7 @@ use Rattle.std.proofs.lemmas.Bool.{or_parts}
 use Rattle.nbt_name.specs.declared.addr.Addr.{Addr}
 use Rattle.nbt_name.specs.declared.addr.Kind.{Kind}
 use Rattle.nbt_name.specs.Wire.{NameValue}
-use Rattle.nbt_packet.specs.Message.{MessageValue, message_of}
+use Rattle.nbt_packet.specs.Message.{MessageValue}
 use Rattle.nbt_lease.specs.Drift.{quiet}
 use Rattle.nbt_node.specs.declared.fault.AskFault.TheVariants as fault
 use Rattle.nbt_node.specs.declared.lookup.Lookup.{Lookup}
@@ -23,7 +23,7 @@ use Rattle.nbt_node.specs.Moves.{NameEvent, ask, poll, hear, nothing, Told, Move
 use Rattle.nbt_packet.specs.Spelling.{AreWritten}
 use Rattle.nbt_node.specs.Calls.{is_busy, is_quiet, ask_refusal, question, LooksUp, slot_due, lookup_due, due_lookup, Polls, polls_name, polls_lookup, polls_nothing}
 use Rattle.nbt_node.specs.Datagrams.{same_end, NodeHears, from_server, from_stranger, ends, Ends, is_answered, is_unanswered}
-use Rattle.nbt_node.specs.Inner.Sending.{IsSending}
+use Rattle.nbt_node.specs.Inner.Sending.{IsSending, request_in}
 use Rattle.nbt_node.proofs.Due.{known_due}
 use Rattle.nbt_node.proofs.Awake.{awake-settled, awake-with_state}
 use Rattle.nbt_node.proofs.Known.{absent, distinct-settled, state_in-settled, distinct-with_state, length-with_state, with_state-other, with_state-same}
@@ -193,17 +193,20 @@ module _ (old mid new : NodeValue) (now : ℕ) (before after : Option Lookup) (t
 -- ---- a poll that sends what a name has due
 
 pub polls_sending : (old new : NodeValue) (now : ℕ) (kept : Slot) (sending : Sending) (octets : List ℕ) → AreDistinct old.slots → slot_due old now ≡ Some kept
-    → IsSending old.config.life now old.addr.ip old.next_id kept.name kept.state sending → new ≡ changed old now sending.name sending.state sending.next_id
-    → AreWritten (Some (message_of sending.message)) octets → Polls old now new (Some old.server) octets
+    → IsSending old.config.life now old.next_id kept.name kept.state sending → new ≡ changed old now sending.name sending.state sending.next_id
+    → AreWritten (request_in old.addr.ip sending.name sending.state) octets → Polls old now new (Some old.server) octets
 polls_sending old new now kept sending octets apart due is new_is written =
     let known : state_in (map (settled_slot old.config.life now) old.slots) kept.name ≡ kept.state =
     (known_due old.config.life now (map (settled_slot old.config.life now) old.slots) kept (distinct-settled old.config.life now old.slots apart) due).0
     in
     let state_is : state_at old now kept.name ≡ kept.state = sym (state_in-settled old.config.life now old.slots kept.name apart) ∙ known in
-    let move : Move old now kept.name (state_at old now kept.name) poll sending.state (Some (message_of sending.message)) nothing sending.next_id = rw state_is (is.moves old refl refl refl) in
+    let moves = is.moves old refl refl in
+    let message : MessageValue = moves.0 in
+    let move : Move old now kept.name (state_at old now kept.name) poll sending.state (Some message) nothing sending.next_id = rw state_is moves.2 in
     let whole : new ≡ changed old now kept.name sending.state sending.next_id = new_is ∙ ap (λ (n : NameValue). changed old now n sending.state sending.next_id) is.name_is in
+    let asks : request_in old.addr.ip sending.name sending.state ≡ Some message = ap (λ (n : NameValue). request_in old.addr.ip n sending.state) is.name_is ∙ moves.1 in
     polls_name kept new octets due
-    (record { message = message_of sending.message; moves = name_moves old new now kept.name poll (Some (message_of sending.message)) nothing sending.state sending.next_id move whole; written = written })
+    (record { message = message; moves = name_moves old new now kept.name poll (Some message) nothing sending.state sending.next_id move whole; written = subst (λ (m : Option MessageValue). AreWritten m octets) asks written })
 
 -- ---- what is said about a name
 

@@ -79,6 +79,11 @@ NodeTakes old now from (not_found id rcode name) = Ends old now from (not_found 
 NodeTakes old now from (status id name names) = Ends old now from (status id name names) (lists names)
 NodeTakes old now from message = Idles old now
 
+-- a status request, the one request to which a node itself replies (RFC 1002 section 4.2.17)
+abbrev pub asks_names : Option MessageValue → Bool
+asks_names (Some (status_request id name)) = true
+asks_names message = false
+
 -- what octets say: the message that they spell, or that they spell none
 abbrev pub Says : List ℕ → Option MessageValue → Type 0
 Says octets None = (message : MessageValue) → ¬ Spells octets message

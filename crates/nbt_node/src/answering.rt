@@ -6,6 +6,7 @@ ghost use Rattle.nbt_name.specs.Words.{word, long};
 ghost use Rattle.nbt_packet.specs.Message.{message_if, nb, internet};
 ghost use Rattle.nbt_packet.specs.Text.{header, answer_octets, entry};
 ghost use Rattle.nbt_node.specs.Node.{holds};
+ghost use Rattle.nbt_node.specs.Datagrams.{asks_names};
 ghost use Rattle.nbt_node.specs.Moves.{told_of};
 ghost use Rattle.nbt_node.specs.Answering.{answer_if, own_reply, sent_back};
 
@@ -24,6 +25,13 @@ const NB: u16 = 0x0020;
 const IN: u16 = 0x0001;
 /// How many octets one entry has (RFC 1002 section 4.2.13).
 const ENTRY: u16 = 6;
+
+/// Whether a message is a status request, the one request to which a node itself replies (RFC 1002 section 4.2.17).
+pub fn asks_names(message: &Option<Message<'_>>) -> bool
+    ensures { result ≡ asks_names (message_if message.now) }
+{
+    matches!(message, Some(Message::StatusRequest { .. }))
+}
 
 /// The header of a reply with one answer (RFC 1002 section 4.2.1.1).
 fn put_header(id: u16, out: &mut ArrayVec<u8, 576>)

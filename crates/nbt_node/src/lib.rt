@@ -19,7 +19,7 @@ mod status;
 mod transaction;
 mod waiting;
 
-pub use answering::reply_to;
+pub use answering::{asks_names, reply_to};
 pub use event::Event;
 pub use fault::{AskFault, ClockBack, LookupFault, ReleaseFault};
 pub use node::Node;

@@ -1,8 +1,9 @@
 //! An end node: the names that it registers and holds.
 
-ghost use Rattle.std.specs.Prelude.{◌≡◌, ℕ, ◌≤◌, ◌<◌, ◌↔◌, List, [], Option, None, IsNone, OnOk, OnErr, IfOk, IsErr};
+ghost use Rattle.std.specs.Prelude.{◌≡◌, false, true, Some, ℕ, ◌≤◌, ◌<◌, ◌↔◌, List, [], Option, None, IsNone, OnOk, OnErr, IfOk, IsErr};
 ghost use Rattle.std.specs.Result.{result_err};
 
+use crate::answering::asks_names;
 use crate::asking::{claim, id_after, release};
 use crate::event::Event;
 use crate::fault::{AskFault, ClockBack, LookupFault, ReleaseFault};
@@ -18,7 +19,7 @@ use crate::transaction::{Transaction, next_due};
 use crate::waiting::{earlier, lookup_next_due, slots_next_due};
 use arrayvec::ArrayVec;
 use nbt_lease::{Config, Moment};
-use nbt_name::{Addr, Kind, LentName};
+use nbt_name::{Addr, Kind, LentName, Name};
 use nbt_packet::{Message, Registration, read, write};
 use std::marker::Model;
 
@@ -50,6 +51,7 @@ impl<const N: usize> Model for Node<N> {
 }
 
 impl<const N: usize> Node<N> {
+    ghost use Rattle.nbt_name.specs.declared.addr.Addr.{Addr as End};
     ghost use Rattle.nbt_name.specs.declared.addr.Kind.{Kind as NameKind};
     ghost use Rattle.nbt_packet.specs.Message.{MessageValue, message_of, message_if, registered, released, wait};
     ghost use Rattle.nbt_lease.specs.Config.{granted};
@@ -60,7 +62,7 @@ impl<const N: usize> Node<N> {
     ghost use Rattle.nbt_node.specs.Calls.{started_from, started, refreshing_soon, ask_refusal, release_refusal, resolve_refusal, status_refusal, Sends, Opens, Polls, slot_due};
     ghost use Rattle.nbt_node.specs.Standing.{standing};
     ghost use Rattle.nbt_node.specs.Waiting.{sends_at, IsFirst};
-    ghost use Rattle.nbt_node.specs.Datagrams.{NodeHears, Lists, Ends, NodeTakes, Handles, Says, is_listed_for};
+    ghost use Rattle.nbt_node.specs.Datagrams.{NodeHears, Lists, Ends, NodeTakes, Handles, Says, asks_names, is_listed_for};
 
     /// A node at `addr` whose name server is at `server`. It holds no name, and registers none until more than
     /// `Config::quiet()` has passed: two lives of a datagram, and what its clock may be fast by (our profile). All times
@@ -159,7 +161,9 @@ impl<const N: usize> Node<N> {
         None
     }
 
-    /// Settles the node at `now`, gives the name another state, which settles too, and takes the next id.
+    /// Settles the node at `now`, gives the name another state, which settles too, and takes the next id. It stands apart for its room
+    /// on the stack.
+    #[inline(never)]
     fn change(&mut self, now: Moment, name: &LentName<'_>, after: &State, next_id: u16)
         requires { self.old.last ≤ now }
         ensures node { self.new ≡ changed self.old now name.now after.now next_id }
@@ -286,10 +290,11 @@ impl<const N: usize> Node<N> {
         if now.get() < self.last.get() {
             return Err(ClockBack);
         }
-        match &first_due(&self.slots, self.addr.ip, self.next_id, self.config, now) {
+        match first_due(&self.slots, self.next_id, self.config, now) {
             Some(sending) => {
-                sending.put(out);
-                let name = sending.kept_name();
+                sending.put(self.addr.ip, out);
+                let mut name = Name::blank();
+                name.set(&sending.name);
                 let (state, next_id) = (sending.state, sending.next_id);
                 self.change(now, &name.lend(), &state, next_id);
                 Ok(Some(self.server))
@@ -446,11 +451,37 @@ impl<const N: usize> Node<N> {
         ensures err { OnErr result ((self.new ≡ self.old) × (out.new.items ≡ [])) }
     {
         out.clear();
+        if !asks_names(message) {
+            return self.handle_unanswered(now, from, message);
+        }
         if now.get() < self.last.get() {
             return Err(ClockBack);
         }
         match message {
-            Some(message) => Ok(self.take(now, from, message, out)),
+            Some(message) => Ok(self.take_request(now, message, out)),
+            None => unreachable!(),
+        }
+    }
+
+    /// Handles a message that is no status request, the one request to which a node itself replies, as `handle` does: it has no
+    /// room for a reply, for a caller that has none to spare. The caller must ensure that [`asks_names`] is false of the message.
+    /// Refused as there.
+    pub fn handle_unanswered<'a>(
+        &mut self,
+        now: Moment,
+        from: Addr,
+        message: &Option<Message<'a>>,
+    ) -> Result<Event<'a>, ClockBack>
+        requires { asks_names (message_if message.now) ≡ false }
+        ensures refused { IsErr result ↔ (now < self.old.last) }
+        ensures ok { IfOk result (λ event. (octets : List ℕ) → Says octets (message_if message.now) → Handles self.old now from octets self.new (told_of event) []) }
+        ensures err { OnErr result (self.new ≡ self.old) }
+    {
+        if now.get() < self.last.get() {
+            return Err(ClockBack);
+        }
+        match message {
+            Some(message) => Ok(self.take(now, from, message)),
             None => {
                 self.settle(now);
                 Ok(Event::Nothing)
@@ -458,18 +489,12 @@ impl<const N: usize> Node<N> {
         }
     }
 
-    /// What a message from an endpoint makes of the node.
+    /// What a message from an endpoint makes of the node, if it is no status request.
     #[inline(never)]
-    fn take<'a>(
-        &mut self,
-        now: Moment,
-        from: Addr,
-        message: &Message<'a>,
-        out: &mut ArrayVec<u8, 576>,
-    ) -> Event<'a>
+    fn take<'a>(&mut self, now: Moment, from: Addr, message: &Message<'a>) -> Event<'a>
         requires later { self.old.last ≤ now }
-        requires empty { out.old.items ≡ [] }
-        ensures { (sent : Option MessageValue) × NodeTakes self.old now from (message_of message.now) self.new sent (told_of result) × AreWritten sent out.new.items }
+        requires unanswered { asks_names (message_if (Some message.now)) ≡ false }
+        ensures { NodeTakes self.old now from (message_of message.now) self.new None (told_of result) }
     {
         match message {
             Message::Registered {
@@ -483,7 +508,6 @@ impl<const N: usize> Node<N> {
                 ..
             } => self.take_released(now, from, *id, *rcode, name),
             Message::Wait { id, name, ttl } => self.take_wait(now, from, *id, name, *ttl),
-            Message::StatusRequest { id, name } => self.list_names(now, *id, name, out),
             Message::Found { entries, cut, .. } => {
                 let found = Event::Found { entries, cut: *cut };
                 self.end_lookup(now, from, message, found)
@@ -495,6 +519,7 @@ impl<const N: usize> Node<N> {
                 message,
                 Event::Status(names),
             ),
+            Message::StatusRequest { .. } => unreachable!(),
             Message::Registration(_)
             | Message::Overwrite(_)
             | Message::Refresh(_)
@@ -599,8 +624,25 @@ impl<const N: usize> Node<N> {
         on_wait(&state, id, ttl, now)
     }
 
+    /// What a message makes of the node, if it is a status request.
+    fn take_request<'a>(
+        &mut self,
+        now: Moment,
+        message: &Message<'_>,
+        out: &mut ArrayVec<u8, 576>,
+    ) -> Event<'a>
+        requires later { self.old.last ≤ now }
+        requires answered { asks_names (message_if (Some message.now)) ≡ true }
+        requires empty { out.old.items ≡ [] }
+        ensures { (sent : Option MessageValue) × ((from : End) → NodeTakes self.old now from (message_of message.now) self.new sent (told_of result)) × AreWritten sent out.new.items }
+    {
+        match message {
+            Message::StatusRequest { id, name } => self.list_names(now, *id, name, out),
+            _ => unreachable!(),
+        }
+    }
+
     /// A status request. The names are those of the node that is settled at `now`.
-    #[inline(never)]
     fn list_names<'a>(
         &mut self,
         now: Moment,

@@ -9,7 +9,7 @@ ghost use Rattle.nbt_node.specs.Settling.{settled};
 
 use crate::state::{Slot, State};
 use nbt_lease::{Config, Moment};
-use nbt_name::LentName;
+use nbt_name::{LentName, Name};
 
 /// The state of a name: `Idle` where it has no slot.
 pub fn state_in(slots: &[Option<Slot>], name: &LentName<'_>) -> State
@@ -102,7 +102,9 @@ fn find_free(slots: &[Option<Slot>]) -> Option<usize>
     slots.iter().position(|slot| slot.is_none())
 }
 
-/// Puts another state into the name's slot, or else into the lowest free one.
+/// Puts another state into the name's slot, or else into the lowest free one. It stands apart for its room on the stack, as `settle`
+/// does, which what calls one after the other takes once.
+#[inline(never)]
 pub fn change(slots: &mut [Option<Slot>], name: &LentName<'_>, state: &State)
     ensures { slots.new ≡ with_state slots.old name.now state.now }
 {
@@ -147,7 +149,11 @@ fn fill(slot: &mut Option<Slot>, name: &LentName<'_>, state: &State)
     ensures { slot.new ≡ Some (record { name = name.now; state = state.now }) }
 {
     *slot = Some(Slot {
-        name: name.to_name(),
+        name: Name::blank(),
         state: *state,
     });
+    match slot {
+        Some(kept) => kept.name.set(name),
+        None => unreachable!(),
+    }
 }

@@ -9,12 +9,11 @@ use Rattle.nbt_node.proofs.node.Node.poll.Goals as goal
 pub returns-in-Some-clause-ok : goal.returns-in-Some-clause-ok
 returns-in-Some-clause-ok g c =
     let old : NodeValue = c.args.self.now in
-    let found = rw c.in-Some.is at c.first_due.ensures.sending in
-    let kept : Slot = found.0 in
-    let due : slot_due old c.args.now ≡ Some kept = subst (λ (n : NodeValue). slot_due n c.args.now ≡ Some kept) c.self.view_is found.1 in
-    let sends : IsSending old.config.life c.args.now old.addr.ip old.next_id kept.name kept.state c.in-Some.sending =
-    subst (λ (n : NodeValue). IsSending n.config.life c.args.now n.addr.ip n.next_id kept.name kept.state c.in-Some.sending) c.self.view_is found.2
+    let kept : Slot = c.in-Some.ensures.sending.0 in
+    let due : slot_due old c.args.now ≡ Some kept = subst (λ (n : NodeValue). slot_due n c.args.now ≡ Some kept) c.self.view_is c.in-Some.ensures.sending.1 in
+    let sends : IsSending old.config.life c.args.now old.next_id kept.name kept.state c.in-Some.sending =
+    subst (λ (n : NodeValue). IsSending n.config.life c.args.now n.next_id kept.name kept.state c.in-Some.sending) c.self.view_is c.in-Some.ensures.sending.2
     in
     let server_is : c.self-in-Some.inside.server ≡ old.server = ap (λ (n : NodeValue). n.server) (c.self-in-Some.view_is ∙ c.change.ensures.node) in
     rw server_is
-    (polls_sending old c.change.new.self c.args.now kept c.in-Some.sending c.put.new.out.items c.change.ensures.apart due sends (rw (c.lend.ensures, c.kept_name-name.ensures) at c.change.ensures.node) c.put.ensures)
+    (polls_sending old c.change.new.self c.args.now kept c.in-Some.sending c.put.new.out.items c.change.ensures.apart due sends (rw (c.lend.ensures, c.set.ensures) at c.change.ensures.node) (rw (ap (λ (n : NodeValue). n.addr.ip) c.self.view_is) at c.put.ensures))
