@@ -5,7 +5,7 @@ ghost use Rattle.std.specs.Prelude.{◌≡◌, ◌↔◌, IsTrue};
 use crate::dgram::Names;
 use crate::joined::Joined;
 use arrayvec::ArrayVec;
-use nbt_name::{LentName, Name};
+use nbt_name::Name;
 use std::marker::Model;
 
 /// Names that borrow nothing.
@@ -24,13 +24,11 @@ impl Model for KeptNames {
 }
 
 impl KeptNames {
-    /// Names that are equal to these.
-    pub(crate) fn of(names: &Names<'_>) -> KeptNames
-        ensures { result ≡ names.now }
-    {
+    /// Room for names that are set.
+    pub(crate) fn blank() -> KeptNames {
         KeptNames {
-            source: names.source.to_name(),
-            destination: names.destination.to_name(),
+            source: Name::blank(),
+            destination: Name::blank(),
         }
     }
 
@@ -44,14 +42,12 @@ impl KeptNames {
         }
     }
 
-    /// Equal names.
-    pub(crate) fn copy(&self) -> KeptNames
-        ensures { result ≡ self.now }
+    /// Become equal names, where they stand.
+    pub(crate) fn set(&mut self, names: &Names<'_>)
+        ensures { self.new ≡ names.now }
     {
-        KeptNames {
-            source: self.source.copy(),
-            destination: self.destination.copy(),
-        }
+        self.source.set(&names.source);
+        self.destination.set(&names.destination);
     }
 
     /// Whether they are these.
@@ -75,22 +71,17 @@ impl Reassembly {
     /// Room for any datagram. It stands apart for its room on the stack, which the names that are moved there take.
     #[inline(never)]
     pub fn new() -> Reassembly {
-        let blank = LentName::new(&[0; 16], &[]).unwrap();
         Reassembly {
-            names: KeptNames {
-                source: blank.to_name(),
-                destination: blank.to_name(),
-            },
+            names: KeptNames::blank(),
             data: ArrayVec::new(),
         }
     }
 
-    /// Makes these the names. It stands apart for its room on the stack.
-    #[inline(never)]
+    /// Makes these the names.
     pub(crate) fn keep(&mut self, names: &KeptNames)
         ensures { self.new ≡ record self.old { names = names.now } }
     {
-        self.names = names.copy();
+        self.names.set(&names.lend());
     }
 
     /// The datagram that stands there.

@@ -106,12 +106,15 @@ impl Slot {
     }
 }
 
-/// Makes these the names that are known. It stands apart for its room on the stack.
-#[inline(never)]
+/// Makes these the names that are known. They are set where they stand, which takes less of the stack than to move them there.
 fn keep(known: &mut Option<KeptNames>, names: &LentNames<'_>)
     ensures { known.new ≡ Some names.now }
 {
-    *known = Some(KeptNames::of(names));
+    *known = Some(KeptNames::blank());
+    match known {
+        Some(known) => known.set(names),
+        None => unreachable!(),
+    }
 }
 
 /// Whether a first fragment's names are those that are known.
