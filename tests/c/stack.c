@@ -10,10 +10,10 @@
 
 /* The most that a call of a group may take: of names, of a node, of sessions, of a name server, and of datagrams. */
 #define OF_NAMES 9728
-#define OF_NODES 2816
+#define OF_NODES 2048
 #define OF_SESSIONS 6656
 #define OF_SERVERS 9216
-#define OF_DATAGRAMS 4608
+#define OF_DATAGRAMS 4096
 
 #define PAINT 0xA5
 

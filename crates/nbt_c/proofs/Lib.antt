@@ -10,6 +10,8 @@ mod Forms
 mod Framed
 -- The handle of each object.
 mod Handles
+-- What a node reports of a datagram.
+mod Heard
 -- A value in C's memory, of whatever type: it is put there, and borrowed.
 mod InMemory
 -- A listener sends no message.

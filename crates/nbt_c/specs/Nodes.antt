@@ -1,9 +1,9 @@
 -- What the calls of a node in C's memory answer: 0, or the first number that is wrong, or the number of the node's refusal.
-use Rattle.std.specs.Prelude.{◌≡◌, ℕ, ◌<◌, ◌≤◌, List, [], Option, Some, None}
+use Rattle.std.specs.Prelude.{◌≡◌, ℕ, ◌<◌, ◌≤◌, Bool, true, false, List, [], Option, Some, None}
 use Rattle.nbt_name.specs.declared.addr.Addr.{Addr}
 use Rattle.nbt_name.specs.declared.addr.Kind.{Kind}
 use Rattle.nbt_lease.specs.Config.{last_moment}
-use Rattle.nbt_packet.specs.Message.{MessageValue}
+use Rattle.nbt_packet.specs.Message.{MessageValue, query, status_request}
 use Rattle.nbt_node.specs.Node.{NodeValue, holds}
 use Rattle.nbt_node.specs.Calls.{started_from, started, ask_refusal, release_refusal, resolve_refusal, status_refusal, Sends, Opens, Polls}
 use Rattle.nbt_node.specs.declared.fault.AskFault.{AskFault}
@@ -68,6 +68,12 @@ pub data AsksStatus (old : NodeValue) (now : ℕ) (to : Addr) (held : CName) : �
 -- the number of `ClockBack`
 abbrev pub clock_back : ℕ
 clock_back = 4
+
+-- a message to which something may be sent back: a query, or a status request
+abbrev pub is_request : Option MessageValue → Bool
+is_request (Some (query id name)) = true
+is_request (Some (status_request id name)) = true
+is_request message = false
 
 -- A datagram is handled, and then something is sent back, or nothing: the node's own reply, or that to a query for a name that it holds.
 pub data Hears (old : NodeValue) (now : ℕ) (from : Addr) (octets : List ℕ) : ℕ → NodeValue → Told → Option MessageValue → List ℕ → Type 0 where

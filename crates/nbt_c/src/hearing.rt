@@ -1,16 +1,17 @@
 //! A node in C's memory: it handles datagrams, polls, and says when it polls next, and which names it holds.
 
-ghost use Rattle.std.specs.Prelude.{◌≡◌, ◌↔◌, ℕ, List, Option, Some, IsSome};
+ghost use Rattle.std.specs.Prelude.{◌≡◌, ◌↔◌, ◌<◌, ◌≤◌, ℕ, List, [], Option, Some, IsSome, IfOk, OnErr};
 ghost use Rattle.nbt_name.specs.declared.addr.Addr.{Addr as End};
 ghost use Rattle.nbt_name.specs.declared.addr.Kind.{Kind as HeldKind};
-ghost use Rattle.nbt_node.specs.Moves.{Told};
+ghost use Rattle.nbt_lease.specs.Config.{last_moment};
+ghost use Rattle.nbt_node.specs.Moves.{Told, told_of};
 ghost use Rattle.nbt_node.specs.Node.{NodeValue};
 ghost use Rattle.nbt_packet.specs.Message.{MessageValue, message_if};
 ghost use Rattle.nbt_packet.specs.Spelling.{Spells};
 ghost use Rattle.nbt_node.specs.Waiting.{sends_at, IsFirst};
 ghost use Rattle.nbt_c.specs.Events.{event_for, lent_by};
 ghost use Rattle.nbt_c.specs.Ends.{addr_of};
-ghost use Rattle.nbt_c.specs.Nodes.{Hears, PollsNode, Holds, Stands, end_after, held_number, standing_number};
+ghost use Rattle.nbt_c.specs.Nodes.{Hears, is_request, PollsNode, Holds, Stands, end_after, held_number, standing_number};
 ghost use Rattle.nbt_c.specs.Results.{Puts, PutsMost, TellsTime};
 
 use crate::buffer::{Octets, put_most, put_packet};
@@ -24,35 +25,77 @@ use nbt_name::{Addr, Kind};
 use nbt_node::{ClockBack, Event, Standing};
 use nbt_packet::{Message, read};
 
-/// Calls `nbt_node::Node::handle` and `nbt_node::reply_to` with what C passes.
-fn hear(
+/// Whether something may be sent back to who sent the message: to a query, or a status request.
+fn is_request(message: &Option<Message<'_>>) -> bool
+    ensures { result ≡ is_request (message_if message.now) }
+{
+    matches!(
+        message,
+        Some(Message::Query { .. }) | Some(Message::StatusRequest { .. })
+    )
+}
+
+/// Calls `nbt_node::Node::handle` and `nbt_node::reply_to`.
+fn handle_and_answer<'a>(
     node: &mut HeldNode,
-    now: u64,
+    now: Moment,
     from: Addr,
     octets: &[u8],
-    message: &Option<Message<'_>>,
-    told: &mut CEvent,
-    lent: &mut [u8],
+    message: &Option<Message<'a>>,
     out: &mut Octets,
-) -> u8
-    requires { (m : MessageValue) → (message_if message.now ≡ Some m) ↔ Spells octets.now m }
-    ensures { (heard : Told) × (message : Option MessageValue) × Hears node.old now from octets.now result node.new heard message out.new.items
-        × (told.new ≡ event_for heard message) × PutsMost (lent_by heard) lent.old lent.new }
+) -> Result<Event<'a>, ClockBack>
+    requires spells { (m : MessageValue) → (message_if message.now ≡ Some m) ↔ Spells octets.now m }
+    requires moment { now ≤ last_moment }
+    ensures ok { IfOk result (λ event. Hears node.old now from octets.now 0 node.new (told_of event) (message_if message.now) out.new.items) }
+    ensures err { OnErr result ((now < node.old.last) × (node.new ≡ node.old) × (out.new.items ≡ [])) }
 {
-    out.clear();
-    told.become_nothing();
-    let Some(now) = Moment::new(now) else {
-        return NO_MOMENT;
-    };
-    match node.handle(now, from, message, out) {
-        Ok(event) => {
-            let event = answer(node, now, message, event, out);
-            told.report(&event, message);
-            put_most(lent_by(&event), lent);
-            0
-        }
-        Err(fault) => fault.number(),
+    let event = node.handle(now, from, message, out)?;
+    Ok(answer(node, now, message, event, out))
+}
+
+/// Handles a request, and puts what is sent back into the caller's buffer. It stands apart for its room on the stack: no other message
+/// needs a reply's.
+#[inline(never)]
+fn hear_request<'a>(
+    node: &mut HeldNode,
+    now: Moment,
+    from: Addr,
+    octets: &[u8],
+    message: &Option<Message<'a>>,
+    out: &mut [u8; 576],
+    size: &mut usize,
+) -> Result<Event<'a>, ClockBack>
+    requires spells { (m : MessageValue) → (message_if message.now ≡ Some m) ↔ Spells octets.now m }
+    requires moment { now ≤ last_moment }
+    ensures ok { IfOk result (λ event. (reply : List ℕ) × Hears node.old now from octets.now 0 node.new (told_of event) (message_if message.now) reply × Puts reply out.old out.new size.new) }
+    ensures err { OnErr result ((now < node.old.last) × (node.new ≡ node.old) × Puts [] out.old out.new size.new) }
+{
+    let mut reply = Octets::new();
+    let heard = handle_and_answer(node, now, from, octets, message, &mut reply);
+    *size = put_packet(reply.as_slice(), out);
+    heard
+}
+
+/// Handles a message, and puts what is sent back, if anything is, into the caller's buffer.
+fn hear<'a>(
+    node: &mut HeldNode,
+    now: Moment,
+    from: Addr,
+    octets: &[u8],
+    message: &Option<Message<'a>>,
+    out: &mut [u8; 576],
+    size: &mut usize,
+) -> Result<Event<'a>, ClockBack>
+    requires spells { (m : MessageValue) → (message_if message.now ≡ Some m) ↔ Spells octets.now m }
+    requires moment { now ≤ last_moment }
+    ensures ok { IfOk result (λ event. (reply : List ℕ) × Hears node.old now from octets.now 0 node.new (told_of event) (message_if message.now) reply × Puts reply out.old out.new size.new) }
+    ensures err { OnErr result ((now < node.old.last) × (node.new ≡ node.old) × Puts [] out.old out.new size.new) }
+{
+    if is_request(message) {
+        return hear_request(node, now, from, octets, message, out, size);
     }
+    *size = 0;
+    node.handle_unanswered(now, from, message)
 }
 
 /// `nbt_node::Node::on_datagram`, and `nbt_node::reply_to`: handles a datagram of these octets, which came at `now` from `from`, and
@@ -91,9 +134,7 @@ pub extern "C" fn nbt_node_on_datagram(
     )
 }
 
-/// The same with the message that the octets spell. It stands apart for its room on the stack, which the reading of them doesn't
-/// take.
-#[inline(never)]
+/// The same with the message that the octets spell.
 fn hear_message(
     node: &mut HeldNode,
     now: u64,
@@ -109,10 +150,19 @@ fn hear_message(
     ensures { (told : Told) × (heard : Option MessageValue) × (reply : List ℕ) × Hears node.old now from octets.now result node.new told heard reply
         × (event.new ≡ event_for told heard) × PutsMost (lent_by told) lent.old lent.new × Puts reply out.old out.new size.new }
 {
-    let mut reply = Octets::new();
-    let result = hear(node, now, from, octets, message, event, lent, &mut reply);
-    *size = put_packet(reply.as_slice(), out);
-    result
+    event.become_nothing();
+    let Some(now) = Moment::new(now) else {
+        *size = 0;
+        return NO_MOMENT;
+    };
+    match hear(node, now, from, octets, message, out, size) {
+        Ok(told) => {
+            event.report(&told, message);
+            put_most(lent_by(&told), lent);
+            0
+        }
+        Err(fault) => fault.number(),
+    }
 }
 
 /// Calls `nbt_node::Node::poll` with what C passes.

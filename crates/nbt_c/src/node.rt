@@ -35,8 +35,9 @@ pub extern "C" fn nbt_node_align() -> usize
     align_of::<HeldNode>()
 }
 
-/// `nbt_node::Node::start`: a node of 14 slots at `own`, whose name server is at `server`, stands in the memory. 0; else none does:
-/// the number of the first limit that isn't kept, `Life` (1), `Longest` (2), `Rows` (3), or 253 where `now` is above 2^60 ms.
+/// `nbt_node::Node::start`: a node at `own`, whose name server is at `server`, stands in the memory. It has the slots that the library
+/// was built for: 14, 4 or 1. 0; else none does: the number of the first limit that isn't kept, `Life` (1), `Longest` (2), `Rows` (3),
+/// or 253 where `now` is above 2^60 ms.
 #[unsafe(no_mangle)]
 pub extern "C" fn nbt_node_start(
     node: &mut CNode,

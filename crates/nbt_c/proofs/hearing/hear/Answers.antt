@@ -1,58 +1,70 @@
-use Rattle.std.proofs.Common.{◌≡◌, ◌<◌, ◌≤◌, ℕ, List, [], ◌∷◌, Option, None, refl, subst}
-use Rattle.nbt_name.specs.declared.addr.Addr.{Addr}
-use Rattle.nbt_packet.specs.Message.{MessageValue, message_if}
-use Rattle.nbt_lease.specs.Config.{last_moment}
+use Rattle.std.proofs.Common.{◌≡◌, ◌↔◌, ◌<◌, ℕ, List, [], false, Option, Some, None, Result, Ok, Err, IfOk, IsErr, refl, sym, true≢false}
+use Rattle.nbt_packet.specs.Message.{MessageValue, message_if, registration, overwrite, refresh, release, query, status_request, registered, released, found, not_found, status, wait}
+use Rattle.nbt_node.specs.declared.event.Event.{Event}
+use Rattle.nbt_node.specs.declared.fault.ClockBack.{ClockBack}
 use Rattle.nbt_node.specs.Node.{NodeValue}
-use Rattle.nbt_node.specs.Moves.{Told, nothing, told_of}
+use Rattle.nbt_node.specs.Moves.{Told, told_of, nothing, replied, is_granted, is_renewed, is_refused, is_lost, is_freed, waits, finds, finds_none, lists}
 use Rattle.nbt_node.specs.Datagrams.{Handles, Says}
-use Rattle.nbt_node.specs.Answering.{sent_back}
+use Rattle.nbt_node.specs.Answering.{own_reply, sent_back}
 use Rattle.nbt_node.proofs.Reading.{says_read}
 use Rattle.nbt_c.specs.Events.{octets_back, reported}
-use Rattle.nbt_c.specs.Nodes as is
-use Rattle.nbt_c.specs.Nodes.{Hears}
-use Rattle.nbt_c.specs.Results.{PutsMost}
-use Rattle.nbt_c.proofs.Calls.{above, at_least, given}
+use Rattle.nbt_c.specs.Nodes.{Hears, is_request}
+use Rattle.nbt_c.specs.Results.{Puts}
+use Rattle.nbt_c.proofs.Calls.{at_least}
+use Rattle.nbt_c.proofs.Heard.{heard_as}
 use Rattle.nbt_c.proofs.hearing.hear.Goals as goal
 
-no_octets : (room : List ℕ) → PutsMost [] room room
-no_octets [] = refl
-no_octets (x ∷ xs) = refl
+-- where a node itself says nothing, nothing is sent back
+own_says : (told : Told) → (told ≡ reported told (own_reply told [])) × ([] ≡ octets_back (own_reply told []))
+own_says nothing = (refl, refl)
+own_says replied = (refl, refl)
+own_says (is_granted s) = (refl, refl)
+own_says (is_renewed s) = (refl, refl)
+own_says (is_refused r) = (refl, refl)
+own_says is_lost = (refl, refl)
+own_says (is_freed r) = (refl, refl)
+own_says waits = (refl, refl)
+own_says (finds e c) = (refl, refl)
+own_says finds_none = (refl, refl)
+own_says (lists n) = (refl, refl)
 
-heard_as : (old : NodeValue) (now : ℕ) (from : Addr) (octets : List ℕ) (new : NodeValue) (message : Option MessageValue) (told : Told) (own : List ℕ) (heard : Told) (out : List ℕ)
-    → now ≤ last_moment → old.last ≤ now → Says octets message → Handles old now from octets new told own
-    → heard ≡ reported told (sent_back new now message told own) → out ≡ octets_back (sent_back new now message told own) → Hears old now from octets 0 new heard message out
-heard_as old now from octets new message told own heard out most later says handles heard_is out_is = rw (heard_is, out_is) (is.Hears.hears new message told own most later says handles)
+nothing_back : (node : NodeValue) (now : ℕ) (message : Option MessageValue) (told : Told) → is_request message ≡ false
+    → (told ≡ reported told (sent_back node now message told [])) × ([] ≡ octets_back (sent_back node now message told []))
+nothing_back node now None told request = own_says told
+nothing_back node now (Some (query id name)) told request = absurd (true≢false request)
+nothing_back node now (Some (registration r)) told request = own_says told
+nothing_back node now (Some (overwrite r)) told request = own_says told
+nothing_back node now (Some (refresh r)) told request = own_says told
+nothing_back node now (Some (release id name kind addr)) told request = own_says told
+nothing_back node now (Some (status_request id name)) told request = own_says told
+nothing_back node now (Some (registered rcode r)) told request = own_says told
+nothing_back node now (Some (released id rcode name kind addr)) told request = own_says told
+nothing_back node now (Some (found id name ttl entries cut)) told request = own_says told
+nothing_back node now (Some (not_found id rcode name)) told request = own_says told
+nothing_back node now (Some (status id name names)) told request = own_says told
+nothing_back node now (Some (wait id name ttl)) told request = own_says told
 
-pub returns-in_default : goal.returns-in_default
-returns-in_default c = (
-  nothing,
-  None,
-  given (λ n node octets. Hears c.args.node.now c.args.now c.args.from c.args.octets.now n node nothing None octets) refl refl c.clear.ensures (is.Hears.has_no_moment (above c.in_default.ensures.found)),
-  c.become_nothing.ensures,
-  no_octets c.args.lent.now,
-)
+pub returns-clause-ok : goal.returns-clause-ok
+returns-clause-ok c = go c.handle_unanswered.result c.handle_unanswered.ensures.refused c.handle_unanswered.ensures.ok
+  where
+    old : NodeValue
+    old = c.args.node.now
 
-pub returns-in-Ok : goal.returns-in-Ok
-returns-in-Ok c =
-    let at = c.in-Some.ensures.value in let message = message_if c.args.message.now in let told = told_of c.in-Ok.event in let own = c.handle.new.out.items in
-    let says = says_read c.args.message.now c.args.octets.now c.requires in (
-      told_of c.answer-event.result,
-      message,
-      heard_as c.args.node.now c.args.now c.args.from c.args.octets.now c.handle.new.self message told own (told_of c.answer-event.result) c.answer-event.new.out.items
-          (c.in-Some.ensures.found.0 refl) (subst (λ m. c.args.node.now.last ≤ m) at (at_least c.in-Ok.ensures.refused)) says
-          (subst (λ m. Handles c.args.node.now m c.args.from c.args.octets.now c.handle.new.self told own) at (c.in-Ok.ensures.ok c.args.octets.now says))
-          (subst (λ m. told_of c.answer-event.result ≡ reported told (sent_back c.handle.new.self m message told own)) at c.answer-event.ensures.told)
-          (subst (λ m. c.answer-event.new.out.items ≡ octets_back (sent_back c.handle.new.self m message told own)) at c.answer-event.ensures.octets),
-      c.report.ensures,
-      subst (λ (octets : List ℕ). PutsMost octets c.args.lent.now c.put_most.new.out) c.lent_by.ensures c.put_most.ensures,
+    new : NodeValue
+    new = c.handle_unanswered.new.self
+
+    message : Option MessageValue
+    message = message_if c.args.message.now
+
+    says : Says c.args.octets.now message
+    says = says_read c.args.message.now c.args.octets.now c.requires.spells
+
+    go : (result : Result Event ClockBack) → IsErr result ↔ (c.args.now < old.last) → IfOk result (λ event. (octets : List ℕ) → Says octets message → Handles old c.args.now c.args.from octets new (told_of event) [])
+        → IfOk result (λ event. (x : List ℕ) × Hears old c.args.now c.args.from c.args.octets.now 0 new (told_of event) message x × Puts x c.args.out.now c.args.out.now 0)
+    go (Ok event) refused ok = (
+      [],
+      let back = nothing_back new c.args.now message (told_of event) (sym c.if-is_request.ensures) in
+          heard_as old c.args.now c.args.from c.args.octets.now new message (told_of event) [] (told_of event) [] c.requires.moment (at_least refused) says (ok c.args.octets.now says) back.0 back.1,
+      record { after_is = refl; size_is = refl },
     )
-
-pub returns-in-Err : goal.returns-in-Err
-returns-in-Err c = (
-  nothing,
-  None,
-  given (λ n node octets. Hears c.args.node.now c.args.now c.args.from c.args.octets.now n node nothing None octets) c.number.ensures c.in-Err.ensures.err.0 c.in-Err.ensures.err.1
-      (is.Hears.is_late (c.in-Some.ensures.found.0 refl) (subst (λ m. m < c.args.node.now.last) c.in-Some.ensures.value (c.in-Err.ensures.refused.0 refl))),
-  c.become_nothing.ensures,
-  no_octets c.args.lent.now,
-)
+    go (Err fault) refused ok = tt
