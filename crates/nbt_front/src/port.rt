@@ -60,7 +60,6 @@ impl<'a, P: Port, C: Clock> FrontPort<'a, P, C> {
             → FrontDoes P.does (record { port = before; front = self.old.front }) (receiving result octets.new.items) self.new }
         ensures count { CountsFailure (P.failures self.old.port) (P.failures self.new.port) result }
     {
-        self.desk.clear();
         let Some(sender) = from else {
             return Ok(None);
         };
@@ -83,11 +82,13 @@ impl<P: Port, C: Clock> Port for FrontPort<'_, P, C> {
     ghost failures = { λ p. P.failures p.port };
 
     fn receive(&mut self, octets: &mut ArrayVec<u8, 2048>) -> Result<Option<Addr>, Device> {
+        self.desk.clear();
         let from = self.beneath.receive(octets)?;
         self.pass(from, octets)
     }
 
     fn receive_now(&mut self, octets: &mut ArrayVec<u8, 2048>) -> Result<Option<Addr>, Device> {
+        self.desk.clear();
         let from = self.beneath.receive_now(octets)?;
         self.pass(from, octets)
     }

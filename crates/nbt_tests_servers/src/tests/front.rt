@@ -849,6 +849,11 @@ fn receive_and_tell<R: Abort + AllocGlobal, P: Port>(
 ) {
     expect(rt, port.failures() < 1 << 62);
     port.receive(octets).expect(rt, "received");
+    expect_told(rt, port, said);
+}
+
+/// Whether the port says this of what came last, and no more.
+fn expect_told<R: Abort + AllocGlobal, P: Port>(rt: &R, port: &P, said: &str) {
     let mut errors = Vec::new(rt.alloc());
     port.tell_changes(&mut errors);
     expect_eq(rt, &errors.as_slice(), &said.as_bytes());
@@ -921,12 +926,39 @@ impl Scene for SaysFew<'_> {
     }
 }
 
+/// What was refused is said once: a receive that fails after it says nothing.
+#[derive(Drop)]
+struct SaysOnce<'a> {
+    front: &'a Front,
+}
+
+impl Scene for SaysOnce<'_> {
+    fn play<R: Abort + AllocGlobal + time::Clock>(
+        &self,
+        rt: &R,
+        port: &mut MemoryPort,
+        _clock: &mut MemoryClock,
+        _server: &mut Server,
+    ) {
+        port.fail_after(2);
+        let beneath = mem::replace(port, port_of(rt, &[]).expect(rt, "a port"));
+        let mut over = FrontPort::new(beneath, desk_of(rt, self.front, &[]));
+        let mut octets = ArrayVec::new();
+        let said = "nbt: refused NODEB#20 198.18.137.3: not allowed\n";
+        receive_and_tell(rt, &mut over, &mut octets, said);
+        expect(rt, over.failures() < 1 << 62);
+        expect(rt, over.receive(&mut octets).is_err());
+        expect_told(rt, &over, "");
+    }
+}
+
 #[test]
 fn what_is_refused_is_said_ten_times_a_second(rt: HostRuntime) {
     let front = front_of(&rt);
     let rows = SAID;
     play_on(&rt, rows, &[0], &Says { front: &front });
-    play_on(&rt, &[rows[2]; 15], &[0], &SaysFew { front: &front })
+    play_on(&rt, &[rows[2]; 15], &[0], &SaysFew { front: &front });
+    play_on(&rt, &[rows[2]], &[0], &SaysOnce { front: &front })
 }
 
 /// A call that fails: the receive, and the send of the front's own reply. Nothing was sent, and one failure is counted.
