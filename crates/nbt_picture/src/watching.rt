@@ -33,10 +33,10 @@ impl Sketch {
         }
     }
 
-    /// Puts a row without words where the clocks went on after the last row, so that what was over by then is seen.
+    /// Puts a row without words where a clock went on after the last row, so that what was over by then is seen.
     pub fn finish(&mut self, world: &World) -> Result<(), AllocError> {
         let is_new = match self.chart.rows.as_slice().last() {
-            Some(row) => row.clock != world.clock().get(),
+            Some(row) => row.clock != world.clock().get() || row.readings != readings_of(world),
             None => false,
         };
         if is_new {
