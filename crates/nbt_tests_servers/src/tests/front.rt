@@ -926,6 +926,45 @@ impl Scene for SaysFew<'_> {
     }
 }
 
+/// Each kind has its own ten lines, and where the clock goes back ten anew. At 2,000 eleven aren't allowed, and one asks for a fixed name;
+/// at 1,000 eleven aren't allowed, and of these the one that wasn't said is counted at 2,000. Each is counted as a reply.
+#[derive(Drop)]
+struct SaysTenAnew<'a> {
+    front: &'a Front,
+}
+
+impl Scene for SaysTenAnew<'_> {
+    fn play<R: Abort + AllocGlobal + time::Clock>(
+        &self,
+        rt: &R,
+        port: &mut MemoryPort,
+        _clock: &mut MemoryClock,
+        _server: &mut Server,
+    ) {
+        let beneath = mem::replace(port, port_of(rt, &[]).expect(rt, "a port"));
+        let mut times = [1_000; 24];
+        times[..12].fill(2_000);
+        times[23] = 2_000;
+        let mut over = FrontPort::new(beneath, desk_of(rt, self.front, &times));
+        let mut octets = ArrayVec::new();
+        for place in 0..24 {
+            let said = match place {
+                10 | 22 => "",
+                11 => "nbt: refused FRED#20 127.0.0.3: a fixed name\n",
+                23 => "nbt: refused NODEB#20 198.18.137.3: not allowed, 1 left out before\n",
+                _ => "nbt: refused NODEB#20 198.18.137.3: not allowed\n",
+            };
+            receive_and_tell(rt, &mut over, &mut octets, said);
+        }
+        let replied = OwnReplies {
+            not_allowed: 23,
+            fixed_refused: 1,
+            ..OwnReplies::NONE
+        };
+        expect_eq(rt, &over.own_replies(), &replied);
+    }
+}
+
 /// What was refused is said once: a receive that fails after it says nothing.
 #[derive(Drop)]
 struct SaysOnce<'a> {
@@ -958,10 +997,13 @@ fn what_is_refused_is_said_ten_times_a_second(rt: HostRuntime) {
     let rows = SAID;
     play_on(&rt, rows, &[0], &Says { front: &front });
     play_on(&rt, &[rows[2]; 15], &[0], &SaysFew { front: &front });
-    play_on(&rt, &[rows[2]], &[0], &SaysOnce { front: &front })
+    play_on(&rt, &[rows[2]], &[0], &SaysOnce { front: &front });
+    let mut many = [rows[2]; 24];
+    many[11] = rows[1];
+    play_on(&rt, &many, &[0], &SaysTenAnew { front: &front })
 }
 
-/// A call that fails: the receive, and the send of the front's own reply. Nothing was sent, and one failure is counted.
+/// A call that fails: the receive, and the send of the front's own reply. Nothing was sent, no reply and one failure is counted.
 #[derive(Drop)]
 struct Fails<'a> {
     front: &'a Front,
@@ -984,6 +1026,7 @@ impl Scene for Fails<'_> {
         expect_eq_in(rt, &self.call, &over.failures(), &1);
         expect_eq_in(rt, &self.call, &over.beneath().failures(), &1);
         expect_in(rt, &self.call, over.beneath().sent().is_empty());
+        expect_eq_in(rt, &self.call, &over.own_replies(), &OwnReplies::NONE);
         // And the next turn goes on with what comes next.
         let counts = serve(rt, &mut over, clock, server, 1).expect(rt, "serve");
         expect_eq_in(rt, &self.call, &counts.receives, &1);

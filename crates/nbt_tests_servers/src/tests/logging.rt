@@ -51,6 +51,9 @@ impl Write for Writer {
 
 const LINE: &str = "1970-01-01T00:00:00Z malformed from 127.0.0.2:137: 1 octets\n";
 
+const DROPPED: &str =
+    ".. 3 lines dropped: the reader of the log was slow, or it could not be written\n";
+
 const FAILED: &str = "nbt: the log can't be written: no storage space\n";
 
 const AGAIN: &str = "nbt: the log is written again\n";
@@ -115,13 +118,13 @@ fn a_log_that_can_not_be_written_for_a_while(rt: HostRuntime) {
         text: Vec::new(rt.alloc()),
     };
     expect_rows(&rt, &mut logger, &mut writer, &ROWS);
-    // The reader has whole lines.
-    let text = writer.text.as_slice();
-    expect(&rt, text.starts_with(LINE.as_bytes()));
-    expect(&rt, text.ends_with(LINE.as_bytes()));
+    // The reader has whole lines, and how many are missing: the third, the fourth and the fifth.
+    let (line, note) = (LINE, DROPPED);
+    let wanted = format!(in rt.alloc(); "{line}{line}{note}{line}{line}").expect(&rt, "memory");
+    expect_eq(&rt, &writer.text.as_slice(), &wanted.as_bytes());
 }
 
-/// A new list that an earlier server left beside the list is in no one's way.
+/// A new list that an earlier server left beside the list is in no one's way; another file is.
 #[test]
 fn a_new_list_that_was_left_is_replaced(rt: HostRuntime) {
     let folder = env::temp_dir(&rt).expect(&rt, "a folder for temporary files");
@@ -143,5 +146,19 @@ fn a_new_list_that_was_left_is_replaced(rt: HostRuntime) {
         .expect(&rt, "replaced");
     let text = fs::read_to_string(&rt, path.as_str()).expect(&rt, "its text");
     expect_eq(&rt, &text.as_str(), &"# live leases of nbt nbns\none\n");
+    // Another file that came there since then stays.
+    fs::write(&rt, path.as_str(), "not mine").expect(&rt, "written");
+    expect(
+        &rt,
+        place.replace("# live leases of nbt nbns\ntwo\n").is_err(),
+    );
+    let text = fs::read_to_string(&rt, path.as_str()).expect(&rt, "its text");
+    expect_eq(&rt, &text.as_str(), &"not mine");
+    // No list can stand below a file.
+    let below = format!(in rt.alloc(); "{path}/list").expect(&rt, "memory");
+    let place = FilePlace::new(&rt, rt.alloc(), Content::Leases, below.as_str()).expect(
+        &rt, "a place",
+    );
+    expect(&rt, place.taken().is_some());
     fs::remove_file(&rt, path.as_str()).expect(&rt, "removed");
 }
