@@ -94,7 +94,7 @@ fn expect_usage<R: Abort + AllocGlobal>(rt: &R) {
 
 /// Commands whose port can't be bound, since another program has it or since its address is no address of this machine, and what is
 /// said of it.
-static NOT_BOUND: [(&str, &str); 10] = [
+static NOT_BOUND: [(&str, &str); 11] = [
     (
         "nbt lookup FRED --server 127.42.24.2:22337 --bind 127.42.24.1:22337",
         "nbt: 127.42.24.1:22337: Address already in use (os error 98)\n",
@@ -135,6 +135,10 @@ static NOT_BOUND: [(&str, &str); 10] = [
         "nbt nbns --bind 127.42.22.4:20138",
         "nbt: 127.42.22.4:20138: Address already in use (os error 98)\n",
     ),
+    (
+        "nbt release FRED --server 127.42.24.2:22337 --bind 192.0.2.1:22337",
+        "nbt: 192.0.2.1:22337: Cannot assign requested address (os error 99)\n",
+    ),
 ];
 
 /// Scans whose port another program has, and what they print: with --json each line is an object.
@@ -147,7 +151,7 @@ static NOT_SCANNED: [(&str, &str); 2] = [
 ];
 
 /// Commands that bind a port first, what they print and end with where the machine has no memory for it, and what is said at last.
-static BINDING: [(&str, &str, u8, &[u8]); 8] = [
+static BINDING: [(&str, &str, u8, &[u8]); 9] = [
     (
         "nbt serve 127.42.24.1:22337 1000 60 --forever",
         "device\n",
@@ -185,6 +189,12 @@ static BINDING: [(&str, &str, u8, &[u8]); 8] = [
         "device\n",
         3,
         b"nbt: 0.0.0.0:0: out of memory\n",
+    ),
+    (
+        "nbt host FRED --server 127.42.24.2:22337 --bind 127.42.24.1:22337",
+        "device\n",
+        3,
+        b"nbt: 127.42.24.1:22337: out of memory\n",
     ),
     (
         "nbt scan 127.42.24.2 --json",
