@@ -1,7 +1,7 @@
 //! The rows of the commands `scan` and `release`: what they ask, hear and print over UDP and a clock that is set.
 
 use super::machine::BOOT;
-use super::serving::{FAILED, Row};
+use super::serving::Row;
 
 /// A node status request for all names, and the reply of a file server in a workgroup, where ANNA is logged in: FRED#00, TEAM#00 as a group,
 /// ANNA#03 and FRED#20, with its unit id. The id of both is the last 16 bits of what the clock shows first, which is [`START`] without BOOT.
@@ -17,7 +17,7 @@ const END: u64 = START + 1;
 
 /// A scan reads its clock as it begins, for the id, and once a turn. The turn in which the reply comes is the first, and one more finds that
 /// all have replied.
-pub static SCANS: [Row; 6] = [
+pub static SCANS: [Row; 5] = [
     Row {
         about: "a host's line",
         words: "nbt scan 127.42.22.3 --port 20139 --bind 127.42.22.2:20138",
@@ -89,19 +89,6 @@ pub static SCANS: [Row; 6] = [
         errors: "",
         sent: &[ASKS],
     },
-    Row {
-        about: "a port that fails",
-        words: "nbt scan 127.42.22.3 --port 20139 --bind 127.42.22.2:20138",
-        moments: &[START],
-        sends: &[],
-        breaks_at: 3,
-        sets: &[],
-        status: 3,
-        readings: 3,
-        text: "device\n",
-        errors: FAILED,
-        sent: &[ASKS],
-    },
 ];
 
 /// The release of FRED, whose id is the last 16 bits of what the clock shows first; that it is released, that the server has no such
@@ -117,7 +104,7 @@ const NOT_LEASED: &str =
 const REFUSED: &str = "0001_b406_0000_0001_0000_0000_{FRED}_0020_0001_00000000_0006_2000_7f2a1602";
 
 /// A release reads its clock as a scan does.
-pub static RELEASING: [Row; 4] = [
+pub static RELEASING: [Row; 3] = [
     Row {
         about: "a name that the server releases",
         words: "nbt release fred --server 127.42.22.3:20139 --bind 127.42.22.2:20138",
@@ -155,19 +142,6 @@ pub static RELEASING: [Row; 4] = [
         readings: 4,
         text: "refused FRED#20: held by another (6)\n",
         errors: "",
-        sent: &[RELEASES],
-    },
-    Row {
-        about: "a port that fails",
-        words: "nbt release fred --server 127.42.22.3:20139 --bind 127.42.22.2:20138",
-        moments: &[START],
-        sends: &[],
-        breaks_at: 3,
-        sets: &[],
-        status: 3,
-        readings: 3,
-        text: "device\n",
-        errors: FAILED,
         sent: &[RELEASES],
     },
 ];
