@@ -1,9 +1,9 @@
-/* How fast `nbt serve` is, beside a loop in C that only echoes, and what a renewal costs `nbt nbns --log` beside it: all in one run,
- * each number the median of five rounds.
+/* What a name server's answers cost, beside a loop in C that only receives and sends: all in one run, each number the median of five
+ * rounds.
  *
- * bench PROGRAM [PORT]: starts PROGRAM as a name server on PORT of 127.0.0.1, the echo on PORT + 1, and nbns on PORT + 2. Leases last 60 s, are
- * renewed before each measure that needs them, and are released after it, so that each round registers its names anew. Each
- * reply's id and flags are checked, and of a lookup the address too. */
+ * bench PROGRAM FOLDER [PORT]: starts PROGRAM on PORT of 127.0.0.1 as `nbt serve`, on PORT + 1 the loop, and on PORT + 2 `nbt nbns` with
+ * its log and, in FOLDER, the list of its leases. Leases last 60 s, are renewed before each measure that needs them, and are released
+ * after it, so that each round registers its names anew. Each reply's id and flags are checked, and of a query the address too. */
 #define _GNU_SOURCE
 #include <arpa/inet.h>
 #include <signal.h>
@@ -21,15 +21,51 @@
 #include "packets.h"
 
 enum { ROUNDS = 5, NAMES = 4096, GROUP = 1000, SMALL_GROUP = 80, FEW = 10, OUTSTANDING = 32, QUERIES = 40000, LEASE = 60, RENEWALS = 5 };
-enum measure { FEW_NAMES, ALL_NAMES, NOT_THERE, CHAINS, OF_SMALL_GROUP, OF_GROUP, JOINING_SMALL, JOINING, REJOINING, REJOINING_BACK, REGISTER, RENEW, ECHO, MEASURES };
 
-static const char *const LABELS[MEASURES] = {
-    "queries over 10 names", "queries over 4,096 names", "queries for names that aren't there",
-    "queries, each after a chain of pointers", "queries of a group of 80", "queries of a group of 1,000",
-    "registrations of 80 members", "registrations of 1,000 members", "renewals of 1,000, the first first", "renewals of 1,000, the last first", "registrations of 4,096 names", "renewals of 4,096 names", "the same queries, echoed",
+/* The flags of replies (RFC 1002 sections 4.2.5, 4.2.10, 4.2.13 and 4.2.14). */
+enum { GRANTED = 0xad80, RELEASED = 0xb400, FOUND = 0x8580, CUT = 0x8780, NOT_FOUND = 0x8583, ECHOED = 0x0100 };
+
+/* What answers. */
+struct end {
+    pid_t pid;
+    struct sockaddr_in at;
 };
 
-static struct sockaddr_in server, echo_end;
+static struct end loop, server, logged;
+
+enum row {
+    ECHO, FEW_NAMES, ALL_NAMES, NOT_THERE, REGISTER, RENEW, REFRESH, LOGGED_NAMES, LOGGED_RENEW, LOGGED_REFRESH,
+    CHAINS, OF_SMALL_GROUP, OF_GROUP, JOINING_SMALL, JOINING, REJOINING, REJOINING_BACK, ROWS,
+};
+
+/* What is printed of a row: beside the row that it is compared with, how much more it may cost, where that has a goal. */
+static const struct {
+    const char *label, *beside;
+    enum row than;
+    double goal;
+} TOLD[ROWS] = {
+    [ECHO] = {"queries, echoed by the loop", "", ECHO, 0},
+    [FEW_NAMES] = {"queries over 10 names", "the loop", ECHO, 1.15},
+    [ALL_NAMES] = {"queries over 4,096 names", "the loop", ECHO, 1.25},
+    [NOT_THERE] = {"queries for names that aren't there", "the loop", ECHO, 1.15},
+    [REGISTER] = {"registrations of 4,096 names", "the loop", ECHO, 1.6},
+    [RENEW] = {"renewals of 4,096 names", "the loop", ECHO, 1.5},
+    [REFRESH] = {"refreshes of 4,096 names", "the loop", ECHO, 1.5},
+    [LOGGED_NAMES] = {"nbns, queries over 4,096 names", "serve", ALL_NAMES, 1.1},
+    [LOGGED_RENEW] = {"nbns, renewals of 4,096 names", "serve", RENEW, 1.1},
+    [LOGGED_REFRESH] = {"nbns, refreshes of 4,096 names", "serve", REFRESH, 1.1},
+    [CHAINS] = {"queries, each after a chain of pointers", "a query", FEW_NAMES, 0},
+    [OF_SMALL_GROUP] = {"queries of a group of 80", "a query", FEW_NAMES, 0},
+    [OF_GROUP] = {"queries of a group of 1,000", "a group of 80", OF_SMALL_GROUP, 0},
+    [JOINING_SMALL] = {"registrations of 80 members", "a registration", REGISTER, 0},
+    [JOINING] = {"registrations of 1,000 members", "80 members", JOINING_SMALL, 0},
+    [REJOINING] = {"renewals of 1,000, the first first", "a renewal", RENEW, 0},
+    [REJOINING_BACK] = {"renewals of 1,000, the last first", "the first first", REJOINING, 0},
+};
+
+/* Of each row and round, the answers a second, and the processor time of what answers, in microseconds an answer. */
+static double rates[ROWS][ROUNDS], costs[ROWS][ROUNDS];
+
 static int lookup_socket, owner_sockets[NAMES], member_sockets[GROUP];
 static unsigned long lost, wrong;
 
@@ -38,14 +74,25 @@ static void fail(const char *what) {
     exit(1);
 }
 
-static double seconds(void) {
+static double time_of(clockid_t clock) {
     struct timespec t;
-    clock_gettime(CLOCK_MONOTONIC, &t);
+    if (clock_gettime(clock, &t)) fail("clock_gettime");
     return (double)t.tv_sec + (double)t.tv_nsec / 1e9;
 }
 
+/* The processor time that a process has taken, in seconds. */
+static double processor(pid_t pid) {
+    clockid_t clock;
+    if (clock_getcpuclockid(pid, &clock)) fail("clock_getcpuclockid");
+    return time_of(clock);
+}
+
+static struct sockaddr_in address(uint32_t ip, uint16_t port) {
+    return (struct sockaddr_in){.sin_family = AF_INET, .sin_addr.s_addr = htonl(ip), .sin_port = htons(port)};
+}
+
 static int udp_socket(uint32_t ip, uint16_t port) {
-    struct sockaddr_in own = {.sin_family = AF_INET, .sin_addr.s_addr = htonl(ip), .sin_port = htons(port)};
+    struct sockaddr_in own = address(ip, port);
     struct timeval wait = {.tv_usec = 100000};
     int s = socket(AF_INET, SOCK_DGRAM, 0);
     if (s < 0 || bind(s, (struct sockaddr *)&own, sizeof own) < 0) fail("socket");
@@ -53,19 +100,28 @@ static int udp_socket(uint32_t ip, uint16_t port) {
     return s;
 }
 
-/* Queries a second, OUTSTANDING at a time, each after this other packet, if there is one; what doesn't come within 100 ms is
- * lost, and as many are sent anew. */
-static double queries(const struct sockaddr_in *to, char letter, unsigned names, int flags, const unsigned char *before, size_t before_length) {
+static void send_from(int socket, const struct end *to, const unsigned char *octets, size_t length) {
+    if (sendto(socket, octets, length, 0, (const struct sockaddr *)&to->at, sizeof to->at) < 0) fail("sendto");
+}
+
+/* What many queries ask for, with which flags their replies come, and what is sent before each, if anything is. */
+struct asked {
+    char letter;
+    unsigned names;
+    int flags;
+    const unsigned char *before;
+    size_t before_length;
+};
+
+/* Asks QUERIES times, OUTSTANDING at a time; what doesn't come within 100 ms is lost, and as many are sent anew. */
+static void query_all(const struct end *to, const struct asked *asked) {
     unsigned char out[80], in[600];
     unsigned sent = 0, answered = 0, open = 0;
-    double begun = seconds();
     while (answered < QUERIES) {
-        while (open < OUTSTANDING && answered + open < QUERIES) {
-            size_t length = put_query(out, (uint16_t)sent, letter, sent % names);
-            if (before_length && sendto(lookup_socket, before, before_length, 0, (const struct sockaddr *)to, sizeof *to) < 0) fail("sendto");
-            if (sendto(lookup_socket, out, length, 0, (const struct sockaddr *)to, sizeof *to) < 0) fail("sendto");
-            sent++;
-            open++;
+        for (; open < OUTSTANDING && answered + open < QUERIES; sent++, open++) {
+            size_t length = put_query(out, (uint16_t)sent, asked->letter, sent % asked->names);
+            if (asked->before) send_from(lookup_socket, to, asked->before, asked->before_length);
+            send_from(lookup_socket, to, out, length);
         }
         ssize_t length = recv(lookup_socket, in, sizeof in, 0);
         if (length < 0) {
@@ -77,51 +133,62 @@ static double queries(const struct sockaddr_in *to, char letter, unsigned names,
             wrong++;
             continue;
         }
-        if (flags && (word_at(in + 2) != flags || (letter == 'N' && flags == 0x8580 && memcmp(in + length - 4, "\x7f\0\0\1", 4)))) wrong++;
+        int is_one = asked->letter == 'N' && asked->flags == FOUND;
+        if (word_at(in + 2) != asked->flags || (is_one && memcmp(in + length - 4, "\x7f\0\0\1", 4))) wrong++;
         answered++;
         open--;
     }
-    return QUERIES / (seconds() - begun);
 }
 
-/* What is asked for, from a socket each: 4,096 names by one owner, or a group by so many members. */
-struct asked {
+static void queries(enum row row, int round, const struct end *to, struct asked asked) {
+    double begun = time_of(CLOCK_MONOTONIC), spent = processor(to->pid);
+    query_all(to, &asked);
+    rates[row][round] = QUERIES / (time_of(CLOCK_MONOTONIC) - begun);
+    costs[row][round] = (processor(to->pid) - spent) * 1e6 / QUERIES;
+}
+
+/* Who claims what, from a socket each: 4,096 names by one owner, or a group by so many members. */
+struct claims {
     const int *sockets;
     unsigned count;
     char letter;
 };
 
-static const struct asked THE_NAMES = {owner_sockets, NAMES, 'N'}, THE_SMALL_GROUP = {member_sockets, SMALL_GROUP, 'S'}, THE_GROUP = {member_sockets, GROUP, 'T'};
+static const struct claims THE_NAMES = {owner_sockets, NAMES, 'N'}, THE_SMALL_GROUP = {member_sockets, SMALL_GROUP, 'S'}, THE_GROUP = {member_sockets, GROUP, 'T'};
 
-/* The first flags of a registration's reply and of a release's (RFC 1002 sections 4.2.5 and 4.2.10). */
-enum { GRANTED = 0xad80, RELEASED = 0xb400 };
+enum claim { REGISTRATIONS, REFRESHES, RELEASES };
 
-/* Requests a second, from one socket after the other, or from the last one on, OUTSTANDING at a time: registrations, which renew
- * what is there, or releases. */
-static double ask(const struct asked *asked, int reply, int backwards) {
-    unsigned char out[80], in[600];
-    double begun = seconds();
-    for (unsigned k = 0; k < asked->count + OUTSTANDING; k++) {
-        if (k < asked->count) {
-            unsigned who = backwards ? asked->count - 1 - k : k;
-            size_t length = asked->letter == 'N' ? put_registration(out, (uint16_t)k, 'N', who, LEASE) : put_membership(out, (uint16_t)k, asked->letter, who, LEASE);
-            if (reply == RELEASED) make_release(out);
-            if (sendto(asked->sockets[who], out, length, 0, (struct sockaddr *)&server, sizeof server) < 0) fail("sendto");
-        }
-        if (k >= OUTSTANDING) {
-            unsigned id = k - OUTSTANDING, who = backwards ? asked->count - 1 - id : id;
-            ssize_t length = recv(asked->sockets[who], in, sizeof in, 0);
-            if (length < 0) lost++;
-            else if (length != 62 || word_at(in) != (uint16_t)id || word_at(in + 2) != reply) wrong++;
-        }
-    }
-    return asked->count / (seconds() - begun);
+static size_t put_claim(unsigned char *out, enum claim claim, const struct claims *claims, uint16_t id, unsigned who) {
+    size_t length = claims->letter == 'N' ? put_registration(out, id, 'N', who, LEASE) : put_membership(out, id, claims->letter, who, LEASE);
+    if (claim == REFRESHES) make_refresh(out);
+    if (claim == RELEASES) make_release(out);
+    return length;
 }
 
-/* Queries a second, with the leases renewed before. */
-static double queries_of(const struct asked *asked, unsigned names, int flags, const unsigned char *before, size_t before_length) {
-    ask(asked, GRANTED, 0);
-    return queries(&server, asked->letter, names, flags, before, before_length);
+/* Claims, from one socket after the other, or from the last one on, OUTSTANDING at a time. */
+static void claim_all(const struct end *to, enum claim claim, const struct claims *claims, int backwards) {
+    unsigned char out[80], in[600];
+    for (unsigned k = 0; k < claims->count + OUTSTANDING; k++) {
+        if (k < claims->count) {
+            unsigned who = backwards ? claims->count - 1 - k : k;
+            size_t length = put_claim(out, claim, claims, (uint16_t)k, who);
+            send_from(claims->sockets[who], to, out, length);
+        }
+        if (k >= OUTSTANDING) {
+            unsigned id = k - OUTSTANDING, who = backwards ? claims->count - 1 - id : id;
+            ssize_t length = recv(claims->sockets[who], in, sizeof in, 0);
+            if (length < 0) lost++;
+            else if (length != 62 || word_at(in) != (uint16_t)id || word_at(in + 2) != (claim == RELEASES ? RELEASED : GRANTED)) wrong++;
+        }
+    }
+}
+
+/* The same so many times, and measured. */
+static void claim(enum row row, int round, const struct end *to, enum claim claim, const struct claims *claims, int backwards, int times) {
+    double begun = time_of(CLOCK_MONOTONIC), spent = processor(to->pid);
+    for (int k = 0; k < times; k++) claim_all(to, claim, claims, backwards);
+    rates[row][round] = times * claims->count / (time_of(CLOCK_MONOTONIC) - begun);
+    costs[row][round] = (processor(to->pid) - spent) * 1e6 / times / claims->count;
 }
 
 /* The resident memory of a process, in kB. */
@@ -135,41 +202,20 @@ static long resident(pid_t pid) {
     return found;
 }
 
-static pid_t start_server(const char *program, uint16_t port, int is_logged) {
-    char bind_to[32], longest[8];
-    snprintf(bind_to, sizeof bind_to, "127.0.0.1:%u", port);
-    snprintf(longest, sizeof longest, is_logged ? "%ds" : "%d", LEASE);
-    pid_t pid = fork();
-    if (pid == 0) {
-        freopen("/dev/null", "w", stdout);
-        if (is_logged) execl(program, "nbt", "nbns", "--bind", bind_to, "--life", "1s", "--longest", longest, "--rows-per-client", "4096", "--log", (char *)NULL);
-        else execl(program, "nbt", "serve", bind_to, "1000", longest, "--forever", (char *)NULL);
-        fail(program);
+static struct end start_server(uint16_t port, char *const *words) {
+    struct end started = {.pid = fork(), .at = address(LOOPBACK, port)};
+    if (started.pid == 0) {
+        if (!freopen("/dev/null", "w", stdout)) fail("/dev/null");
+        execv(words[0], words);
+        fail(words[0]);
     }
-    return pid;
+    return started;
 }
 
-/* The processor time that a process has taken, in seconds. */
-static double processor(pid_t pid) {
-    clockid_t clock;
-    struct timespec t;
-    if (clock_getcpuclockid(pid, &clock) || clock_gettime(clock, &t)) fail("clock_getcpuclockid");
-    return (double)t.tv_sec + (double)t.tv_nsec / 1e9;
-}
-
-/* The processor time, in microseconds, that a renewal takes the server on that port. */
-static double renewal(pid_t pid, uint16_t port) {
-    server.sin_port = htons(port);
-    ask(&THE_NAMES, GRANTED, 0);
-    double begun = processor(pid);
-    for (int k = 0; k < RENEWALS; k++) ask(&THE_NAMES, GRANTED, 0);
-    return (processor(pid) - begun) * 1e6 / RENEWALS / NAMES;
-}
-
-static pid_t start_echo(uint16_t port) {
-    int s = udp_socket(INADDR_LOOPBACK, port);
-    pid_t pid = fork();
-    if (pid == 0) {
+static struct end start_loop(uint16_t port) {
+    int s = udp_socket(LOOPBACK, port);
+    struct end started = {.pid = fork(), .at = address(LOOPBACK, port)};
+    if (started.pid == 0) {
         unsigned char octets[600];
         for (;;) {
             struct sockaddr_in from;
@@ -179,7 +225,53 @@ static pid_t start_echo(uint16_t port) {
         }
     }
     close(s);
-    return pid;
+    return started;
+}
+
+static void start(char *program, const char *folder, uint16_t port) {
+    char bind_to[32], log_at[32], seconds[8], milliseconds[8], list[4096];
+    snprintf(bind_to, sizeof bind_to, "127.0.0.1:%u", port);
+    snprintf(log_at, sizeof log_at, "127.0.0.1:%u", port + 2);
+    snprintf(seconds, sizeof seconds, "%d", LEASE);
+    snprintf(milliseconds, sizeof milliseconds, "%ds", LEASE);
+    snprintf(list, sizeof list, "%s/leases", folder);
+    loop = start_loop((uint16_t)(port + 1));
+    server = start_server(port, (char *[]){program, "serve", bind_to, "1000", seconds, "--forever", NULL});
+    logged = start_server((uint16_t)(port + 2), (char *[]){program, "nbns", "--bind", log_at, "--life", "1s", "--longest", milliseconds, "--rows-per-client", "4096", "--log", "--leases", list, NULL});
+    lookup_socket = udp_socket(LOOPBACK, 0);
+    for (unsigned k = 0; k < NAMES; k++) owner_sockets[k] = udp_socket(LOOPBACK, 0);
+    for (unsigned k = 0; k < GROUP; k++) member_sockets[k] = udp_socket(member_ip(k), 0);
+}
+
+/* Measures what is asked of one machine's names. */
+static void measure_names(int round, const unsigned char *chain, size_t chain_length) {
+    claim(REGISTER, round, &server, REGISTRATIONS, &THE_NAMES, 0, 1);
+    claim_all(&logged, REGISTRATIONS, &THE_NAMES, 0);
+    claim(RENEW, round, &server, REGISTRATIONS, &THE_NAMES, 0, RENEWALS);
+    claim(LOGGED_RENEW, round, &logged, REGISTRATIONS, &THE_NAMES, 0, RENEWALS);
+    claim(REFRESH, round, &server, REFRESHES, &THE_NAMES, 0, RENEWALS);
+    claim(LOGGED_REFRESH, round, &logged, REFRESHES, &THE_NAMES, 0, RENEWALS);
+    queries(ECHO, round, &loop, (struct asked){'N', NAMES, ECHOED, NULL, 0});
+    queries(FEW_NAMES, round, &server, (struct asked){'N', FEW, FOUND, NULL, 0});
+    queries(ALL_NAMES, round, &server, (struct asked){'N', NAMES, FOUND, NULL, 0});
+    queries(LOGGED_NAMES, round, &logged, (struct asked){'N', NAMES, FOUND, NULL, 0});
+    queries(NOT_THERE, round, &server, (struct asked){'X', NAMES, NOT_FOUND, NULL, 0});
+    claim_all(&server, REGISTRATIONS, &THE_NAMES, 0);
+    queries(CHAINS, round, &server, (struct asked){'N', FEW, FOUND, chain, chain_length});
+    claim_all(&server, RELEASES, &THE_NAMES, 0);
+    claim_all(&logged, RELEASES, &THE_NAMES, 0);
+}
+
+/* Measures what is asked of groups. */
+static void measure_groups(int round) {
+    claim(JOINING_SMALL, round, &server, REGISTRATIONS, &THE_SMALL_GROUP, 0, 1);
+    queries(OF_SMALL_GROUP, round, &server, (struct asked){'S', 1, FOUND, NULL, 0});
+    claim_all(&server, RELEASES, &THE_SMALL_GROUP, 0);
+    claim(JOINING, round, &server, REGISTRATIONS, &THE_GROUP, 0, 1);
+    claim(REJOINING, round, &server, REGISTRATIONS, &THE_GROUP, 0, 1);
+    claim(REJOINING_BACK, round, &server, REGISTRATIONS, &THE_GROUP, 1, 1);
+    queries(OF_GROUP, round, &server, (struct asked){'T', 1, CUT, NULL, 0});
+    claim_all(&server, RELEASES, &THE_GROUP, 0);
 }
 
 static int by_size(const void *a, const void *b) {
@@ -187,67 +279,41 @@ static int by_size(const void *a, const void *b) {
     return (d > 0) - (d < 0);
 }
 
+static double median(double *numbers) {
+    qsort(numbers, ROUNDS, sizeof numbers[0], by_size);
+    return numbers[ROUNDS / 2];
+}
+
+static void print_rows(void) {
+    double cost[ROWS];
+    printf("%-40s %10s %12s\n", "", "a second", "us an answer");
+    for (int row = 0; row < ROWS; row++) {
+        cost[row] = median(costs[row]);
+        printf("%-40s %10.0f %12.2f", TOLD[row].label, median(rates[row]), cost[row]);
+        if (*TOLD[row].beside) printf("   %5.2f times %s", cost[row] / cost[TOLD[row].than], TOLD[row].beside);
+        if (TOLD[row].goal > 0) printf(", at most %.2f", TOLD[row].goal);
+        printf("\n");
+    }
+}
+
 int main(int count, char **words) {
-    uint16_t port = (uint16_t)(count > 2 ? atoi(words[2]) : 21937);
-    double taken[MEASURES][ROUNDS], median[MEASURES], plain[ROUNDS], told[ROUNDS];
     unsigned char chain[2048];
     size_t chain_length = put_chain(chain);
     struct rlimit files = {.rlim_cur = NAMES + GROUP + 64, .rlim_max = NAMES + GROUP + 64};
-    if (count < 2) return fprintf(stderr, "bench PROGRAM [PORT]\n"), 2;
+    if (count < 3) return fprintf(stderr, "usage: bench PROGRAM FOLDER [PORT]\n"), 2;
     if (setrlimit(RLIMIT_NOFILE, &files) < 0) fail("setrlimit");
-    server = (struct sockaddr_in){.sin_family = AF_INET, .sin_addr.s_addr = htonl(INADDR_LOOPBACK), .sin_port = htons(port)};
-    echo_end = server;
-    echo_end.sin_port = htons((uint16_t)(port + 1));
-    pid_t echo = start_echo((uint16_t)(port + 1));
-    pid_t served = start_server(words[1], port, 0), logged = start_server(words[1], (uint16_t)(port + 2), 1);
-    lookup_socket = udp_socket(INADDR_LOOPBACK, 0);
-    for (unsigned k = 0; k < NAMES; k++) owner_sockets[k] = udp_socket(INADDR_LOOPBACK, 0);
-    for (unsigned k = 0; k < GROUP; k++) member_sockets[k] = udp_socket(member_ip(k), 0);
-    sleep(LEASE + 1); /* the server is silent for the longest lease */
-    long before = resident(served), after = 0;
+    start(words[1], words[2], (uint16_t)(count > 3 ? atoi(words[3]) : 21937));
+    sleep(LEASE + 1); /* a server is silent for the longest lease */
+    long before = resident(server.pid), logged_before = resident(logged.pid);
     for (int round = 0; round < ROUNDS; round++) {
-        taken[REGISTER][round] = ask(&THE_NAMES, GRANTED, 0);
-        taken[RENEW][round] = ask(&THE_NAMES, GRANTED, 0);
-        after = resident(served);
-        taken[FEW_NAMES][round] = queries_of(&THE_NAMES, FEW, 0x8580, NULL, 0);
-        taken[ALL_NAMES][round] = queries_of(&THE_NAMES, NAMES, 0x8580, NULL, 0);
-        taken[CHAINS][round] = queries_of(&THE_NAMES, FEW, 0x8580, chain, chain_length);
-        ask(&THE_NAMES, GRANTED, 0);
-        taken[NOT_THERE][round] = queries(&server, 'X', NAMES, 0x8583, NULL, 0);
-        ask(&THE_NAMES, RELEASED, 0);
-        taken[JOINING_SMALL][round] = ask(&THE_SMALL_GROUP, GRANTED, 0);
-        taken[OF_SMALL_GROUP][round] = queries_of(&THE_SMALL_GROUP, 1, 0x8580, NULL, 0);
-        ask(&THE_SMALL_GROUP, RELEASED, 0);
-        taken[JOINING][round] = ask(&THE_GROUP, GRANTED, 0);
-        taken[REJOINING][round] = ask(&THE_GROUP, GRANTED, 0);
-        taken[REJOINING_BACK][round] = ask(&THE_GROUP, GRANTED, 1);
-        taken[OF_GROUP][round] = queries_of(&THE_GROUP, 1, 0x8780, NULL, 0);
-        ask(&THE_GROUP, RELEASED, 0);
-        taken[ECHO][round] = queries(&echo_end, 'N', NAMES, 0, NULL, 0);
-        told[round] = renewal(logged, (uint16_t)(port + 2));
-        plain[round] = renewal(served, port);
-        ask(&THE_NAMES, RELEASED, 0);
+        measure_names(round, chain, chain_length);
+        measure_groups(round);
     }
-    qsort(told, ROUNDS, sizeof told[0], by_size);
-    qsort(plain, ROUNDS, sizeof plain[0], by_size);
-    for (int m = 0; m < MEASURES; m++) {
-        qsort(taken[m], ROUNDS, sizeof taken[m][0], by_size);
-        median[m] = taken[m][ROUNDS / 2];
-        printf("%-38s %9.0f a second\n", LABELS[m], median[m]);
-    }
-    printf("resident memory: %ld kB before, %ld kB with 4,096 names\n", before, after);
+    print_rows();
+    printf("resident memory: serve %ld kB, and %ld kB at the end; nbns %ld kB, and %ld kB at the end\n", before, resident(server.pid), logged_before, resident(logged.pid));
     printf("lost %lu, wrong %lu\n", lost, wrong);
-    printf("4,096 names : 10 names   %.2f   (at least 0.97)\n", median[ALL_NAMES] / median[FEW_NAMES]);
-    printf("10 names : echo          %.2f   (at least 0.8)\n", median[FEW_NAMES] / median[ECHO]);
-    printf("not there : 10 names     %.2f   (at least 0.97)\n", median[NOT_THERE] / median[FEW_NAMES]);
-    printf("renewals : 4,096 names   %.2f   (at least 0.8)\n", median[RENEW] / median[ALL_NAMES]);
-    printf("a chain : a query        %.1f    (less than 40)\n", median[FEW_NAMES] / median[CHAINS] - 1);
-    printf("80 members : 1,000       %.2f   (less than 3)\n", median[OF_SMALL_GROUP] / median[OF_GROUP]);
-    printf("joining 80 : 1,000       %.2f\n", median[JOINING_SMALL] / median[JOINING]);
-    printf("last first : first first %.2f   (what a renewal of the least end takes)\n", median[REJOINING_BACK] / median[REJOINING]);
-    printf("nbns --log : serve       %.2f   (at most 1.1; %.1f and %.1f us of a processor for a renewal)\n", told[ROUNDS / 2] / plain[ROUNDS / 2], told[ROUNDS / 2], plain[ROUNDS / 2]);
-    kill(logged, SIGTERM);
-    kill(served, SIGTERM);
-    kill(echo, SIGTERM);
+    kill(logged.pid, SIGTERM);
+    kill(server.pid, SIGTERM);
+    kill(loop.pid, SIGTERM);
     return 0;
 }

@@ -63,10 +63,9 @@ static void register_name(unsigned number) {
     give(LOOPBACK, GRANTED);
 }
 
-/* A refresh (RFC 1002 section 4.2.4). */
 static void refresh(unsigned number) {
     packet_size = put_registration(packet, (uint16_t)now, 'N', number, LEASE);
-    put_word(packet + 2, 0x4000);
+    make_refresh(packet);
     give(LOOPBACK, GRANTED);
 }
 

@@ -67,6 +67,11 @@ static inline size_t put_membership(unsigned char *out, uint16_t id, char letter
     return length;
 }
 
+/* Makes a registration the refresh of the same name (RFC 1002 section 4.2.4). */
+static inline void make_refresh(unsigned char *registration) {
+    put_word(registration + 2, 0x4000);
+}
+
 /* Makes a registration the release of the same name (RFC 1002 section 4.2.9). */
 static inline void make_release(unsigned char *registration) {
     put_word(registration + 2, 0x3000);

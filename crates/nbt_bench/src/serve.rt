@@ -6,10 +6,11 @@ ghost use Rattle.nbt_port.specs.Staying.{StaysUntil, EndsEarly};
 ghost use Rattle.nbt_bench.specs.Serve.{ServesTurn, BreaksServing, RunsServer, ServerFails, ServerIsCut, RunsServerHere, ServerFailsHere, ServerIsCutHere, ServesFor, FailsFor, IsCutFor, counts_text};
 
 use crate::port::bound_port;
+use arrayvec::ArrayVec;
 use nbt_lease::Config;
 use nbt_name::Addr;
 use nbt_port::{Clock, FOREVER, Fault, Port, Turn, Turned, readable_clock, stay_up, tell_end_of};
-use nbt_serve::{Counts, serve_turns};
+use nbt_serve::{Counts, serve_turn, serve_turns};
 use nbt_server::Server;
 use std::alloc::Global;
 use std::io::Write;
@@ -131,6 +132,8 @@ fn serve_on<P: Port, C: Clock, M: time::Clock, E: Write>(
         port,
         clock,
         server,
+        octets: ArrayVec::new(),
+        reply: ArrayVec::new(),
     };
     stay_up(&mut turn, turns, machine, errors)
 }
@@ -141,6 +144,8 @@ struct ServerTurn<'a, P, C> {
     port: &'a mut P,
     clock: &'a mut C,
     server: &'a mut Server,
+    octets: ArrayVec<u8, 2048>,
+    reply: ArrayVec<u8, 576>,
 }
 
 impl<P: Port, C: Clock> Turn for ServerTurn<'_, P, C> {
@@ -169,7 +174,13 @@ impl<P: Port, C: Clock> Turn for ServerTurn<'_, P, C> {
     ghost cuts = { λ _ _ _ _. ⊥ };
 
     fn take<E: Write>(&mut self, _errors: &mut E) -> Turned {
-        match serve_turns(self.port, self.clock, self.server, 1) {
+        match serve_turn(
+            self.port,
+            self.clock,
+            self.server,
+            &mut self.octets,
+            &mut self.reply,
+        ) {
             Ok(_) => Turned::Well,
             Err(_) => Turned::Failed(self.port.cause()),
         }

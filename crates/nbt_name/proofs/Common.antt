@@ -13,7 +13,7 @@ pub use Rattle.std.proofs.lemmas.Result.{err_from_is_err_and}
 pub use Rattle.std.proofs.lemmas.Slice.Eq.{bytes_eq-Decides}
 pub use Rattle.byteorder.specs.Endian.{big_number}
 pub use Rattle.byteorder.specs.Numbers.{big_number-reads_back}
-pub use Rattle.nbt_name.specs.Inner.Reader.{passed_of, spot_of}
+pub use Rattle.nbt_name.specs.Inner.Reader.{Goes, HasPassed, passed_of, spot_of}
 pub use Rattle.nbt_name.specs.Reading.{Fails, Finds, first_label_bad, here, IsFirst, IsLater, IsLetter, label_bad, label_cut, label_long, label_passes, led, LetterFault, letters_bad, letters_pass, LettersAt, missing, NameAt, octets_end, onward, other_octet, past, Path, PlainNameAt, pointer_cut, pointer_leads, pointer_onward, pointer_plain, Spot, Stands, start, Step, Stuck, target}
 pub use Rattle.nbt_name.specs.Scope.{empty, IsScope, label}
 pub use Rattle.nbt_name.specs.Wire.{AreOctets, IsName, letters, name_of, NameValue, same_name, wire, wire_size}

@@ -18,6 +18,8 @@ pub mod Passing
 pub mod WireForms
 -- at each place stands one name or one fault, and the reader comes to an end
 pub mod Ends
+-- a reader that knows its scope's length alone comes to an end too
+pub mod Scoped
 -- the reader makes at most 112 steps for each octet, and 112 more
 pub mod Counts
 -- labels stand in one row from each place on, which is the one that a reader passes

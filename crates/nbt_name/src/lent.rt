@@ -212,24 +212,24 @@ pub(crate) fn find<'a, L: Ledger>(
 {
     let mut reader = Reader::new(place);
     let (sixteen, next) = pass(&mut reader, form, octets, place, steps)?;
-    let name = placed(form, octets, place, sixteen, reader.scope.as_slice(), next);
+    let name = placed(form, octets, place, sixteen, reader.scope, next);
     Ok((name, next))
 }
 
-/// The name that stands at this place, of these sixteen octets and this scope, as it is lent.
+/// The name that stands at this place, of these sixteen octets and a scope of so many octets, as it is lent.
 fn placed<'a>(
     form: Form,
     octets: &'a [u8],
     place: usize,
     sixteen: [u8; 16],
-    scope: &[u8],
+    scope: usize,
     next: usize,
 ) -> LentName<'a>
     requires within { place ≤ length octets.now }
-    requires stands { Stands form octets.now place (name_of sixteen scope.now) next }
-    ensures { result ≡ name_of sixteen scope.now }
+    requires stands { (labels : List ℕ) × (length labels ≡ scope) × Stands form octets.now place (name_of sixteen labels) next }
+    ensures { Stands form octets.now place result next }
 {
-    if scope.is_empty() {
+    if scope == 0 {
         return LentName {
             octets: sixteen,
             scope: Labels::none(),

@@ -3,13 +3,12 @@
 ghost use Rattle.std.specs.Prelude.{◌≡◌, ℕ, List, [], ◌+◌, ◌<◌, ◌≤◌, ◌↔◌, Ok, Err, Some, None, length, slice_get, slice_index, slice_range, EachIndex, IsTrue, IsSome, IfErr, OnOk, unwrap_or};
 ghost use Rattle.std.specs.Option.{ForNone, ForSome};
 ghost use Rattle.nbt_name.specs.Wire.{NameValue, IsName, letters as letters_of};
-ghost use Rattle.nbt_name.specs.Reading.{Spot, Finds, IsLetter, LettersAt, LetterFault, Path, start, Stands, Fails, NameAt, PlainNameAt, FaultAt, PlainFaultAt};
+ghost use Rattle.nbt_name.specs.Reading.{IsLetter, LettersAt, LetterFault};
 ghost use Rattle.nbt_name.specs.declared.form.Form.{Form};
 
 use crate::fault::{NameFault, NameFaultKind};
 use crate::form::Form;
 use crate::wire::{LABEL_MOST, LETTERS, LETTERS_COUNT, LETTERS_WHOLE, POINTER, WIRE_MOST};
-use arrayvec::ArrayVec;
 
 /// A reader on its way through a name's labels.
 #[derive(Debug, Drop)]
@@ -18,12 +17,13 @@ pub(crate) struct Reader {
     pub(crate) place: usize,
     /// The octets that the first label spells, once it was passed.
     pub(crate) first: Option<[u8; 16]>,
-    /// The later labels, each after its length octet.
-    pub(crate) scope: ArrayVec<u8, 221>,
+    /// How many octets the later labels have, with their length octets.
+    pub(crate) scope: usize,
     /// The place after the first pointer, once it was followed.
     pub(crate) resume: Option<usize>,
     ghost whole: { ForSome first (λ octets. length octets ≡ 16) },
-    ghost fresh: { ForNone first (scope.items ≡ []) },
+    ghost fresh: { ForNone first (scope ≡ 0) },
+    ghost fits: { scope ≤ 221 },
 }
 
 /// What one turn of the reader's loop did.
@@ -36,15 +36,15 @@ pub(crate) enum Progress {
 }
 
 impl Reader {
-    ghost use Rattle.nbt_name.specs.Inner.Reader.{spot_of, Turns, Passes};
+    ghost use Rattle.nbt_name.specs.Inner.Reader.{IsAtStart, Turns, Passes};
 
     pub(crate) fn new(place: usize) -> Reader
-        ensures { spot_of result ≡ start place }
+        ensures { IsAtStart place result }
     {
         Reader {
             place,
             first: None,
-            scope: ArrayVec::new(),
+            scope: 0,
             resume: None,
         }
     }
@@ -72,7 +72,7 @@ impl Reader {
     fn pass_letters(&mut self, octets: &[u8], count: u8) -> Result<(), NameFault>
         requires first { self.old.first ≡ None }
         requires within { self.old.place < length octets.now }
-        requires finds { Finds octets.now (spot_of self.old) count }
+        requires finds { slice_get octets.now self.old.place ≡ Some count }
         requires label { count < 0xC0 }
         ensures { (form : Form) → Passes form octets.now self.old self.new result }
     {
@@ -90,7 +90,7 @@ impl Reader {
     fn pass_label(&mut self, octets: &[u8], count: u8) -> Result<(), NameFault>
         requires later { (sixteen : List ℕ) × (self.old.first ≡ Some sixteen) × (length sixteen ≡ 16) }
         requires within { self.old.place < length octets.now }
-        requires finds { Finds octets.now (spot_of self.old) count }
+        requires finds { slice_get octets.now self.old.place ≡ Some count }
         requires label { (0 < count) × (count < 0xC0) }
         ensures { (form : Form) → Passes form octets.now self.old self.new result }
     {
@@ -98,24 +98,21 @@ impl Reader {
         if count > LABEL_MOST {
             return Err(self.fault(NameFaultKind::BadLabel));
         }
-        if LETTERS_WHOLE + self.scope.len() + 1 + count + 1 > WIRE_MOST {
+        if LETTERS_WHOLE + self.scope + 1 + count + 1 > WIRE_MOST {
             return Err(self.fault(NameFaultKind::Long));
         }
         if octets.len() - self.place <= count {
             return Err(short(octets));
         }
-        let end = self.place + 1 + count;
-        self.scope
-            .try_extend_from_slice(&octets[self.place..end])
-            .unwrap();
-        self.place = end;
+        self.scope += 1 + count;
+        self.place += 1 + count;
         Ok(())
     }
 
     /// Follows a pointer to a smaller place.
     fn follow(&mut self, form: Form, octets: &[u8], high: u8) -> Result<(), NameFault>
         requires within { self.old.place < length octets.now }
-        requires finds { Finds octets.now (spot_of self.old) high }
+        requires finds { slice_get octets.now self.old.place ≡ Some high }
         requires pointer { 0xC0 ≤ high }
         ensures { Passes form octets.now self.old self.new result }
     {
@@ -186,7 +183,8 @@ fn are_letters(octets: &[u8]) -> bool
     all
 }
 
-/// Looks for 32 letters at a place, one by one.
+/// Looks for 32 letters at a place, one by one. It is never inlined, so that the fast way reads all of them at once.
+#[inline(never)]
 fn expect_each_letter(octets: &[u8], place: usize) -> Result<(), NameFault>
     requires { place ≤ length octets.now }
     ensures letters { OnOk result ((place + 32 ≤ length octets.now) × LettersAt octets.now place 32) }

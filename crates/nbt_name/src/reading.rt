@@ -1,10 +1,10 @@
 //! Reading names from octets (RFC 1002 section 4.1).
 
-ghost use Rattle.std.specs.Prelude.{◌≡◌, ℕ, ◌+◌, ◌*◌, ◌<◌, ◌≤◌, ◌↔◌, Ok, Err, IfOk, IfErr, length};
+ghost use Rattle.std.specs.Prelude.{◌≡◌, ℕ, List, ◌+◌, ◌*◌, ◌<◌, ◌≤◌, ◌↔◌, Ok, Err, IfOk, IfErr, length};
 ghost use Rattle.nbt_name.specs.declared.fault.NameFault.{NameFault};
 ghost use Rattle.nbt_name.specs.Wire.{NameValue, name_of};
-ghost use Rattle.nbt_name.specs.Inner.Reader.{spot_of};
-ghost use Rattle.nbt_name.specs.Reading.{start, steps_on, Stands, Fails, NameAt, PlainNameAt, FaultAt, PlainFaultAt};
+ghost use Rattle.nbt_name.specs.Inner.Reader.{IsAtStart, HasPassed};
+ghost use Rattle.nbt_name.specs.Reading.{steps_on, Stands, Fails, NameAt, PlainNameAt, FaultAt, PlainFaultAt};
 
 use crate::fault::NameFault;
 use crate::form::Form;
@@ -66,7 +66,7 @@ fn kept(found: Result<(LentName<'_>, usize), NameFault>) -> Result<(Name, usize)
 }
 
 /// Has a reader pass the name at `place`, in one of the two forms, and returns the sixteen octets and the place after the
-/// name. The reader then has the scope.
+/// name. The reader then has the length of the scope.
 pub(crate) fn pass<L: Ledger>(
     reader: &mut Reader,
     form: Form,
@@ -75,10 +75,10 @@ pub(crate) fn pass<L: Ledger>(
     steps: &mut Steps<L>,
 ) -> Result<([u8; 16], usize), NameFault>
     requires place { place ≤ length octets.now }
-    requires starts { spot_of reader.old ≡ start place }
-    ensures name { IfOk result (λ read. Stands form octets.now place (name_of read.0 reader.new.scope.items) read.1) }
+    requires starts { IsAtStart place reader.old }
+    ensures name { IfOk result (λ read. (scope : List ℕ) × HasPassed reader.new scope × Stands form octets.now place (name_of read.0 scope) read.1) }
     ensures fault { IfErr result (Fails form octets.now place) }
-    ensures steps { IfOk result (λ read. (stands : Stands form octets.now place (name_of read.0 reader.new.scope.items) read.1) → steps.new ≡ steps.old + steps_on stands.path + 1) }
+    ensures steps { IfOk result (λ read. (name : NameValue) (stands : Stands form octets.now place name read.1) → steps.new ≡ steps.old + steps_on stands.path + 1) }
     ensures refused { IfErr result (λ fault. (fails : Fails form octets.now place fault) → steps.new ≡ steps.old + steps_on fails.path) }
     ensures step_count { steps.new ≤ steps.old + 112 * (length octets.now + 1) }
 {

@@ -25,6 +25,7 @@ pub const RECEIVE_WAIT: u64 = 100;
 pub struct UdpPort {
     socket: UdpSocket,
     addr: Addr,
+    buffer: [u8; MOST],
     failures: u64,
     cause: Option<Cause>,
     waits: bool,
@@ -54,6 +55,7 @@ impl UdpPort {
         Ok(UdpPort {
             socket,
             addr,
+            buffer: [0; MOST],
             failures: 0,
             cause: None,
             waits: true,
@@ -107,10 +109,9 @@ impl UdpPort {
         ensures count { CountsFailure self.old.failures self.new.failures result }
         ensures empty { result ≡ Ok None → octets.new.items ≡ [] }
     {
-        let mut buffer = [0; MOST];
-        let answer = self.answer_to(waits, &mut buffer);
+        let answer = self.answer_to(waits);
         let error = answer.err();
-        let received = received(answer, &buffer, octets);
+        let received = received(answer, &self.buffer, octets);
         if received.is_err() {
             self.failures += 1;
             self.cause = self.cause_of(MachineCall::Receive, error);
@@ -118,13 +119,13 @@ impl UdpPort {
         received
     }
 
-    /// The system's answer to a receive that waits or not.
-    fn answer_to(&mut self, waits: bool, buffer: &mut [u8; MOST]) -> io::Result<(usize, SocketAddr)>
+    /// The system's answer to a receive that waits or not, with what it received in the buffer.
+    fn answer_to(&mut self, waits: bool) -> io::Result<(usize, SocketAddr)>
         ensures same { self.new ≡ self.old }
         ensures within { IfOk result (λ a. a.0 ≤ octets_most) }
     {
         self.set_waiting(waits)?;
-        self.socket.recv_from(buffer)
+        self.socket.recv_from(&mut self.buffer)
     }
 
     /// Has its calls wait or not. Asks the system only where they do otherwise.

@@ -58,6 +58,7 @@ pub struct UdpPorts<'a, M> {
     alloc: Global,
     bind: &'a Bind,
     sockets: Sockets,
+    buffer: [u8; MOST],
     routes: Routes,
     following: Option<Following>,
     changes: Vec<Change>,
@@ -105,6 +106,7 @@ impl<'a, M: Net + Files + time::Clock> UdpPorts<'a, M> {
             alloc,
             bind,
             sockets: Sockets::new(machine, alloc)?,
+            buffer: [0; MOST],
             routes: Routes::new(alloc)?,
             following: None,
             changes: Vec::new(alloc),
@@ -299,10 +301,9 @@ impl<'a, M: Net + Files + time::Clock> UdpPorts<'a, M> {
             self.routes.clear();
             wait = Duration::from_millis(RECEIVE_WAIT);
         }
-        let mut buffer = [0; MOST];
-        let answer = self.sockets.receive(wait, &mut buffer);
+        let answer = self.sockets.receive(wait, &mut self.buffer);
         let error = answer.err();
-        let received = received(answer, &buffer, octets);
+        let received = received(answer, &self.buffer, octets);
         self.note_route(&received);
         if received.is_err() {
             self.failures += 1;

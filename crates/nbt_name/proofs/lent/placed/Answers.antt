@@ -1,5 +1,5 @@
 use Rattle.std.proofs.Common.{◌≡◌, ℕ, ◌+◌, List, [], ◌∷◌, ◌++◌, length, Option, Some, None, IfSome, IfNone, Bor, sym, ap, subst, ◌∙◌, arith}
-use Rattle.nbt_name.proofs.Common.{slice_index, letters, name_of, IsName}
+use Rattle.nbt_name.proofs.Common.{slice_index, letters, name_of, IsName, nil_from_length, NameValue, Stands}
 use Rattle.nbt_name.proofs.Fits.{length-first}
 use Rattle.nbt_name.proofs.Letters.{length-letters}
 use Rattle.nbt_name.proofs.Places.{name_stands, one_row, same_front}
@@ -13,19 +13,23 @@ after_first sixteen scope old new (Some label) count all some none =
     (same_front label.now (0x20 ∷ letters sixteen) new scope some.1 (omega (arith, length-letters sixteen, count)) (sym some.0 ∙ all)).1
 
 pub at-labels-requires-clause-stand : goal.at-labels-requires-clause-stand
-at-labels-requires-clause-stand c = (
-  0x20 ∷ letters c.args.sixteen ++ c.args.scope.now,
-  length-first c.args.sixteen c.args.scope.now c.requires.stands.closes.is_name,
-  name_stands c.args.octets.now c.args.place _ c.args.next c.requires.stands,
-)
+at-labels-requires-clause-stand c =
+    let scope = c.requires.stands.0 in
+    let stands = c.requires.stands.2 in
+    (
+      0x20 ∷ letters c.args.sixteen ++ scope,
+      length-first c.args.sixteen scope stands.closes.is_name,
+      name_stands c.args.octets.now c.args.place _ c.args.next stands,
+    )
 
-left : (c : goal.After-next) → c.next.new.self ≡ c.args.scope.now
+left : (c : goal.After-next) → c.next.new.self ≡ c.requires.stands.0
 left c =
-    after_first c.args.sixteen c.args.scope.now c.at-labels.result c.next.new.self c.next.result c.requires.stands.closes.is_name.sixteen
-    (one_row c.args.octets.now c.args.place c.at-labels.result _ c.at-labels.ensures (name_stands c.args.octets.now c.args.place _ c.args.next c.requires.stands)) c.next.ensures.label c.next.ensures.none
+    let stands = c.requires.stands.2 in
+    after_first c.args.sixteen c.requires.stands.0 c.at-labels.result c.next.new.self c.next.result stands.closes.is_name.sixteen
+    (one_row c.args.octets.now c.args.place c.at-labels.result _ c.at-labels.ensures (name_stands c.args.octets.now c.args.place _ c.args.next stands)) c.next.ensures.label c.next.ensures.none
 
 pub invariant_of-result-2 : goal.invariant_of-result-2
-invariant_of-result-2 c = subst (λ (s : List ℕ). IsName (name_of c.args.sixteen s)) (sym (left c)) c.requires.stands.closes.is_name
+invariant_of-result-2 c = subst (λ (s : List ℕ). IsName (name_of c.args.sixteen s)) (sym (left c)) c.requires.stands.2.closes.is_name
 
 pub returns : goal.returns
-returns c = ap (name_of c.args.sixteen) (left c)
+returns c = subst (λ (s : List ℕ). Stands c.args.form c.args.octets.now c.args.place (name_of c.args.sixteen s) c.args.next) (sym (left c)) c.requires.stands.2

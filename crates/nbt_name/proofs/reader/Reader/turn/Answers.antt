@@ -4,7 +4,7 @@ use Rattle.nbt_name.proofs.Looks.{none_at, some_at}
 use Rattle.nbt_name.proofs.reader.Reader.turn.Goals as goal
 
 pub returns-in_default : goal.returns-in_default
-returns-in_default c = rw c.short.ensures (missing (none_at c.args.octets.now _ c.in_default.ensures.lookup.0))
+returns-in_default c = λ scope size. rw c.short.ensures (missing (none_at c.args.octets.now _ c.in_default.ensures.lookup.0))
 
 pub follow-requires-clause-finds : goal.follow-requires-clause-finds
 follow-requires-clause-finds c = some_at c.args.octets.now _ _ c.in-Some.ensures.lookup.0 c.in-Some.ensures.lookup.1
