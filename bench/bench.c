@@ -1,5 +1,6 @@
-/* What a name server's answers cost, beside a loop in C that only receives and sends: all in one run, each number the median of five
- * rounds.
+/* What a name server's answers cost, beside a loop in C that only receives and sends: all in one run, each number the median of fifteen
+ * rounds. What is compared is measured one right after the other, so that other work on the machine hits both alike, and a ratio is the
+ * median of the rounds' ratios.
  *
  * bench PROGRAM FOLDER [PORT]: starts PROGRAM on PORT of 127.0.0.1 as `nbt serve`, on PORT + 1 the loop, and on PORT + 2 `nbt nbns` with
  * its log and, in FOLDER, the list of its leases. Leases last 60 s, are renewed before each measure that needs them, and are released
@@ -20,7 +21,7 @@
 
 #include "packets.h"
 
-enum { ROUNDS = 5, NAMES = 4096, GROUP = 1000, SMALL_GROUP = 80, FEW = 10, OUTSTANDING = 32, QUERIES = 40000, LEASE = 60, RENEWALS = 5 };
+enum { ROUNDS = 15, NAMES = 4096, GROUP = 1000, SMALL_GROUP = 80, FEW = 10, OUTSTANDING = 32, QUERIES = 8192, LEASE = 60, RENEWALS = 2 };
 
 /* The flags of replies (RFC 1002 sections 4.2.5, 4.2.10, 4.2.13 and 4.2.14). */
 enum { GRANTED = 0xad80, RELEASED = 0xb400, FOUND = 0x8580, CUT = 0x8780, NOT_FOUND = 0x8583, ECHOED = 0x0100 };
@@ -38,7 +39,8 @@ enum row {
     CHAINS, OF_SMALL_GROUP, OF_GROUP, JOINING_SMALL, JOINING, REJOINING, REJOINING_BACK, ROWS,
 };
 
-/* What is printed of a row: beside the row that it is compared with, how much more it may cost, where that has a goal. */
+/* What is printed of a row: the row that it is compared with, which is measured before it, and how much more it may cost, where that has a
+ * goal. */
 static const struct {
     const char *label, *beside;
     enum row than;
@@ -63,8 +65,9 @@ static const struct {
     [REJOINING_BACK] = {"renewals of 1,000, the last first", "the first first", REJOINING, 0},
 };
 
-/* Of each row and round, the answers a second, and the processor time of what answers, in microseconds an answer. */
-static double rates[ROWS][ROUNDS], costs[ROWS][ROUNDS];
+/* Of each row and round, the answers a second, the processor time of what answers, in microseconds an answer, and how many times that is what
+ * the other row took. */
+static double rates[ROWS][ROUNDS], costs[ROWS][ROUNDS], ratios[ROWS][ROUNDS];
 
 static int lookup_socket, owner_sockets[NAMES], member_sockets[GROUP];
 static unsigned long lost, wrong;
@@ -93,7 +96,7 @@ static struct sockaddr_in address(uint32_t ip, uint16_t port) {
 
 static int udp_socket(uint32_t ip, uint16_t port) {
     struct sockaddr_in own = address(ip, port);
-    struct timeval wait = {.tv_usec = 100000};
+    struct timeval wait = {.tv_usec = 500000};
     int s = socket(AF_INET, SOCK_DGRAM, 0);
     if (s < 0 || bind(s, (struct sockaddr *)&own, sizeof own) < 0) fail("socket");
     setsockopt(s, SOL_SOCKET, SO_RCVTIMEO, &wait, sizeof wait);
@@ -113,7 +116,7 @@ struct asked {
     size_t before_length;
 };
 
-/* Asks QUERIES times, OUTSTANDING at a time; what doesn't come within 100 ms is lost, and as many are sent anew. */
+/* Asks QUERIES times, OUTSTANDING at a time; what doesn't come within half a second is lost, and as many are sent anew. */
 static void query_all(const struct end *to, const struct asked *asked) {
     unsigned char out[80], in[600];
     unsigned sent = 0, answered = 0, open = 0;
@@ -140,11 +143,32 @@ static void query_all(const struct end *to, const struct asked *asked) {
     }
 }
 
+/* When a measure began, and the processor time then of what answers. */
+struct watch {
+    double begun, spent;
+};
+
+static struct watch begin(const struct end *end) {
+    return (struct watch){.begun = time_of(CLOCK_MONOTONIC), .spent = processor(end->pid)};
+}
+
+/* Ends the measure of a row, of so many answers. */
+static void finish(enum row row, int round, const struct end *end, struct watch watch, unsigned answers) {
+    enum row than = TOLD[row].than;
+    rates[row][round] = answers / (time_of(CLOCK_MONOTONIC) - watch.begun);
+    costs[row][round] = (processor(end->pid) - watch.spent) * 1e6 / answers;
+    ratios[row][round] = costs[row][round] / costs[than][round];
+}
+
 static void queries(enum row row, int round, const struct end *to, struct asked asked) {
-    double begun = time_of(CLOCK_MONOTONIC), spent = processor(to->pid);
+    struct watch watch = begin(to);
     query_all(to, &asked);
-    rates[row][round] = QUERIES / (time_of(CLOCK_MONOTONIC) - begun);
-    costs[row][round] = (processor(to->pid) - spent) * 1e6 / QUERIES;
+    finish(row, round, to, watch, QUERIES);
+}
+
+/* Measures the loop, for the row that is compared with it and measured next. */
+static void echo(int round) {
+    queries(ECHO, round, &loop, (struct asked){'N', NAMES, ECHOED, NULL, 0});
 }
 
 /* Who claims what, from a socket each: 4,096 names by one owner, or a group by so many members. */
@@ -185,10 +209,9 @@ static void claim_all(const struct end *to, enum claim claim, const struct claim
 
 /* The same so many times, and measured. */
 static void claim(enum row row, int round, const struct end *to, enum claim claim, const struct claims *claims, int backwards, int times) {
-    double begun = time_of(CLOCK_MONOTONIC), spent = processor(to->pid);
+    struct watch watch = begin(to);
     for (int k = 0; k < times; k++) claim_all(to, claim, claims, backwards);
-    rates[row][round] = times * claims->count / (time_of(CLOCK_MONOTONIC) - begun);
-    costs[row][round] = (processor(to->pid) - spent) * 1e6 / times / claims->count;
+    finish(row, round, to, watch, (unsigned)times * claims->count);
 }
 
 /* The resident memory of a process, in kB. */
@@ -245,16 +268,21 @@ static void start(char *program, const char *folder, uint16_t port) {
 
 /* Measures what is asked of one machine's names. */
 static void measure_names(int round, const unsigned char *chain, size_t chain_length) {
+    echo(round);
     claim(REGISTER, round, &server, REGISTRATIONS, &THE_NAMES, 0, 1);
     claim_all(&logged, REGISTRATIONS, &THE_NAMES, 0);
+    echo(round);
     claim(RENEW, round, &server, REGISTRATIONS, &THE_NAMES, 0, RENEWALS);
     claim(LOGGED_RENEW, round, &logged, REGISTRATIONS, &THE_NAMES, 0, RENEWALS);
+    echo(round);
     claim(REFRESH, round, &server, REFRESHES, &THE_NAMES, 0, RENEWALS);
     claim(LOGGED_REFRESH, round, &logged, REFRESHES, &THE_NAMES, 0, RENEWALS);
-    queries(ECHO, round, &loop, (struct asked){'N', NAMES, ECHOED, NULL, 0});
+    echo(round);
     queries(FEW_NAMES, round, &server, (struct asked){'N', FEW, FOUND, NULL, 0});
+    echo(round);
     queries(ALL_NAMES, round, &server, (struct asked){'N', NAMES, FOUND, NULL, 0});
     queries(LOGGED_NAMES, round, &logged, (struct asked){'N', NAMES, FOUND, NULL, 0});
+    echo(round);
     queries(NOT_THERE, round, &server, (struct asked){'X', NAMES, NOT_FOUND, NULL, 0});
     claim_all(&server, REGISTRATIONS, &THE_NAMES, 0);
     queries(CHAINS, round, &server, (struct asked){'N', FEW, FOUND, chain, chain_length});
@@ -285,12 +313,10 @@ static double median(double *numbers) {
 }
 
 static void print_rows(void) {
-    double cost[ROWS];
     printf("%-40s %10s %12s\n", "", "a second", "us an answer");
     for (int row = 0; row < ROWS; row++) {
-        cost[row] = median(costs[row]);
-        printf("%-40s %10.0f %12.2f", TOLD[row].label, median(rates[row]), cost[row]);
-        if (*TOLD[row].beside) printf("   %5.2f times %s", cost[row] / cost[TOLD[row].than], TOLD[row].beside);
+        printf("%-40s %10.0f %12.2f", TOLD[row].label, median(rates[row]), median(costs[row]));
+        if (*TOLD[row].beside) printf("   %5.2f times %s", median(ratios[row]), TOLD[row].beside);
         if (TOLD[row].goal > 0) printf(", at most %.2f", TOLD[row].goal);
         printf("\n");
     }

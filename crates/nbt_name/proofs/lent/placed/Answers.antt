@@ -1,5 +1,5 @@
-use Rattle.std.proofs.Common.{◌≡◌, ℕ, ◌+◌, List, [], ◌∷◌, ◌++◌, length, Option, Some, None, IfSome, IfNone, Bor, sym, ap, subst, ◌∙◌, arith}
-use Rattle.nbt_name.proofs.Common.{slice_index, letters, name_of, IsName, nil_from_length, NameValue, Stands}
+use Rattle.std.proofs.Common.{◌≡◌, ℕ, ◌+◌, List, [], ◌∷◌, ◌++◌, length, Option, Some, None, IfSome, IfNone, Bor, sym, subst, ◌∙◌, arith}
+use Rattle.nbt_name.proofs.Common.{slice_index, letters, name_of, IsName, Stands}
 use Rattle.nbt_name.proofs.Fits.{length-first}
 use Rattle.nbt_name.proofs.Letters.{length-letters}
 use Rattle.nbt_name.proofs.Places.{name_stands, one_row, same_front}
@@ -15,8 +15,7 @@ after_first sixteen scope old new (Some label) count all some none =
 pub at-labels-requires-clause-stand : goal.at-labels-requires-clause-stand
 at-labels-requires-clause-stand c =
     let scope = c.requires.stands.0 in
-    let stands = c.requires.stands.2 in
-    (
+    let stands = c.requires.stands.2 in (
       0x20 ∷ letters c.args.sixteen ++ scope,
       length-first c.args.sixteen scope stands.closes.is_name,
       name_stands c.args.octets.now c.args.place _ c.args.next stands,

@@ -43,8 +43,7 @@ returns-in-Closed-clause-name g c =
     let turned = rw c.in-Closed.is at c.in_ok-progress.ensures in
     let fits : AreOctets c.args.octets.now = λ k. omega (arith, c.type_inv.octets k) in
     let passed : IsPassed (passed_of c.steps.reader.first held.scope) = path_passed c.args.octets.now fits held.on_path.path (nothing refl) in
-    let count = c.steps.reader.whole c.in-Closed.sixteen turned.1 in
-    (
+    let count = c.steps.reader.whole c.in-Closed.sixteen turned.1 in (
       held.scope,
       held.size ∙ ap (λ (r : Reader). r.scope) (sym turned.0),
       record {

@@ -17,8 +17,7 @@ returns-then-target-self c = λ scope size.
 
 pub returns : goal.returns
 returns c = λ scope size.
-    let low = some_at c.args.octets.now _ _ c.in-Some.ensures.lookup.0 c.in-Some.ensures.lookup.1 in
-    (
+    let low = some_at c.args.octets.now _ _ c.in-Some.ensures.lookup.0 c.in-Some.ensures.lookup.1 in (
       scope,
       size,
       Step-to _ _ _ _ (pointer_leads c.args.high c.in-Some.field-0.now c.in-Compressed.is c.requires.finds c.requires.pointer low (omega arith)) (omega arith) refl (ap Some (sym c.unwrap_or.ensures)),

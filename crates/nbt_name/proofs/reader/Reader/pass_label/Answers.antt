@@ -24,12 +24,11 @@ returns c = λ form scope size.
     let place = c.args.self.now.place in
     let label : List ℕ = slice_range c.args.octets.now place (place + 1 + c.from-count.result) in
     let count : length label ≡ 1 + c.from-count.result =
-    ap (λ (n : ℕ). length (slice_range c.args.octets.now place n)) (omega arith) ∙ length-range c.args.octets.now place (1 + c.from-count.result) (omega arith) in
-    (
+    ap (λ (n : ℕ). length (slice_range c.args.octets.now place n)) (omega arith) ∙ length-range c.args.octets.now place (1 + c.from-count.result) (omega arith) in (
       scope ++ label,
       omega (arith, length-append scope label, count, size),
       Step-to _ _ _ _ (label_passes c.args.count (later_passed _ _ _ c.requires.later.1) c.requires.finds (omega arith) (omega arith) (omega arith) (omega arith))
-      (omega arith)
-      (label_passed c.args.self.now.first scope _ c.args.octets.now _ place c.args.count c.from-count.result c.requires.later.1 c.requires.finds c.from-count.ensures refl)
-      refl,
+          (omega arith)
+          (label_passed c.args.self.now.first scope _ c.args.octets.now _ place c.args.count c.from-count.result c.requires.later.1 c.requires.finds c.from-count.ensures refl)
+          refl,
     )

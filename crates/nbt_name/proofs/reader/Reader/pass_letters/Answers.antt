@@ -17,11 +17,10 @@ pub returns : goal.returns
 returns c = λ form scope size.
     let is : c.args.count ≡ 0x20 = omega arith in
     let all = c.in_ok-expect_letters.ensures.letters in
-    let fresh : ForNone c.args.self.now.first (scope ≡ []) = λ e. nil_from_length scope (size ∙ c.args.self.now.fresh e) in
-    (
+    let fresh : ForNone c.args.self.now.first (scope ≡ []) = λ e. nil_from_length scope (size ∙ c.args.self.now.fresh e) in (
       scope,
       size,
       Step-to _ _ _ _ (letters_pass (first_passed _ _ c.requires.first) (rw is at c.requires.finds) (omega (arith, all.0)) all.1) refl
-      (letters_passed c.args.self.now.first scope c.spelled.result c.args.octets.now c.args.self.now.place c.requires.first fresh c.spelled.ensures.octets)
-      refl,
+          (letters_passed c.args.self.now.first scope c.spelled.result c.args.octets.now c.args.self.now.place c.requires.first fresh c.spelled.ensures.octets)
+          refl,
     )
