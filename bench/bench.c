@@ -252,15 +252,15 @@ static struct end start_loop(uint16_t port) {
 }
 
 static void start(char *program, const char *folder, uint16_t port) {
-    char bind_to[32], log_at[32], seconds[8], milliseconds[8], list[4096];
+    char bind_to[32], log_at[32], seconds[8], span[8], list[4096];
     snprintf(bind_to, sizeof bind_to, "127.0.0.1:%u", port);
     snprintf(log_at, sizeof log_at, "127.0.0.1:%u", port + 2);
     snprintf(seconds, sizeof seconds, "%d", LEASE);
-    snprintf(milliseconds, sizeof milliseconds, "%ds", LEASE);
+    snprintf(span, sizeof span, "%ds", LEASE);
     snprintf(list, sizeof list, "%s/leases", folder);
     loop = start_loop((uint16_t)(port + 1));
     server = start_server(port, (char *[]){program, "serve", bind_to, "1000", seconds, "--forever", NULL});
-    logged = start_server((uint16_t)(port + 2), (char *[]){program, "nbns", "--bind", log_at, "--life", "1s", "--longest", milliseconds, "--rows-per-client", "4096", "--log", "--leases", list, NULL});
+    logged = start_server((uint16_t)(port + 2), (char *[]){program, "nbns", "--bind", log_at, "--life", "1s", "--longest", span, "--rows-per-client", "4096", "--log", "--leases", list, NULL});
     lookup_socket = udp_socket(LOOPBACK, 0);
     for (unsigned k = 0; k < NAMES; k++) owner_sockets[k] = udp_socket(LOOPBACK, 0);
     for (unsigned k = 0; k < GROUP; k++) member_sockets[k] = udp_socket(member_ip(k), 0);
