@@ -663,7 +663,7 @@ struct nbt_server {
 };
 
 /* A server's memory: what the two functions return, and a type of that size and alignment, so that it can be static. */
-#define NBT_SERVER_SIZE 192
+#define NBT_SERVER_SIZE 208
 #define NBT_SERVER_ALIGN 8
 union nbt_server_memory {
     uint64_t aligned;

@@ -22,7 +22,7 @@ listener_size = 7304
 
 -- beside the memory that a server asks malloc for
 abbrev pub server_size : ℕ
-server_size = 192
+server_size = 208
 
 -- of each of them
 abbrev pub object_align : ℕ

@@ -2,6 +2,7 @@
 
 ghost use Rattle.std.specs.Prelude.{◌≡◌, ◌+◌, ◌<◌, ◌≤◌, true, false, length, if◌then◌else◌, IfSome, IfNone, OnOk, OnErr, []};
 
+use crate::boxed_name::BoxedName;
 use crate::looks::Looks;
 use nbt_name::Name;
 use std::alloc::{AllocError, Global};
@@ -14,23 +15,29 @@ use std::sync::ledger::Ledger;
 #[derive(PartialEq, Eq, PartialOrd, Ord, Drop)]
 pub(crate) struct Due {
     pub end: u64,
-    pub name: Name,
+    pub name: BoxedName,
     pub addr: u32,
 }
 
 /// The expiries of all leases, each with its name and address. Only `take_due` shows one, and it counts that as a look.
 #[derive(Drop)]
 pub(crate) struct Ends {
+    alloc: Global,
     dues: BTreeSet<Due>,
+    /// The name that is looked for, in memory that was taken with the first expiry: so a removal takes none.
+    sought: Option<BoxedName>,
 }
 
 impl Model for Ends {
-    ghost use Rattle.std.specs.Prelude.{List};
+    ghost use Rattle.std.specs.Prelude.{◌≡◌, List, []};
+    ghost use Rattle.std.specs.Option.{ForNone};
     ghost use Rattle.nbt_lease.specs.declared.ends.Due.{Due as Seen};
 
     ghost Value = { List Seen };
 
     ghost view = { λ e. e.dues.keys };
+
+    ghost invariant = { λ e. ForNone e.sought (e.dues.keys ≡ []) };
 }
 
 impl Ends {
@@ -43,7 +50,9 @@ impl Ends {
         ensures { result ≡ [] }
     {
         Ends {
+            alloc,
             dues: BTreeSet::new(alloc),
+            sought: None,
         }
     }
 
@@ -62,8 +71,18 @@ impl Ends {
         ensures distinct { OnOk result (IsDistinct is_due self.new) }
         ensures unchanged { OnErr result (self.new ≡ self.old) }
     {
-        let name = name.copy();
-        self.dues.insert(Due { end, name, addr })?;
+        let key = BoxedName::new(self.alloc, name)?;
+        let sought = match self.sought.take() {
+            Some(sought) => sought,
+            None => BoxedName::new(self.alloc, name)?,
+        };
+        self.sought = Some(sought);
+        let due = Due {
+            end,
+            name: key,
+            addr,
+        };
+        self.dues.insert(due)?;
         Ok(())
     }
 
@@ -74,8 +93,17 @@ impl Ends {
         ensures count { length self.new + 1 ≡ length self.old }
         ensures distinct { IsDistinct is_due self.new }
     {
-        let name = name.copy();
-        self.dues.remove(&Due { end, name, addr });
+        let Some(mut sought) = self.sought.take() else {
+            return;
+        };
+        sought.set(name);
+        let due = Due {
+            end,
+            name: sought,
+            addr,
+        };
+        self.dues.remove(&due);
+        self.sought = Some(due.name);
     }
 
     /// Looks at the first expiry, and removes it if it is over at `now`. Takes no memory.

@@ -167,7 +167,7 @@ impl Index {
         let Some(due) = self.ends.take_due(now, looks) else {
             return false;
         };
-        take_out(&mut self.members, &due.name, due.addr);
+        take_out(&mut self.members, due.name.as_name(), due.addr);
         true
     }
 

@@ -5,6 +5,7 @@
 #![tactic(auto)]
 
 mod both;
+mod boxed_name;
 mod config;
 mod ends;
 mod fault;

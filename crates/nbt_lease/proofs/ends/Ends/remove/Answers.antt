@@ -5,13 +5,13 @@ use Rattle.nbt_lease.proofs.ends.Ends.remove.Goals as goal
 
 pub returns-clause-found : goal.returns-clause-found
 returns-clause-found c d =
-    set_changes c.self.inside.dues.keys c.remove.new.self.keys (due c.args.end c.copy-name.result c.args.addr) false c.remove.ensures.updates.0 d
-    ∙ (λ i. cond (is_due (due c.args.end (c.copy-name.ensures i) c.args.addr) d) false (in_set (c.self.view_is i) d))
+    set_changes c.self.inside.dues.keys c.remove.new.self.keys (due c.args.end c.set.new.self c.args.addr) false c.remove.ensures.updates.0 d
+    ∙ (λ i. cond (is_due (due c.args.end (c.set.ensures i) c.args.addr) d) false (in_set (c.self.view_is i) d))
 
 pub returns-clause-count : goal.returns-clause-count
 returns-clause-count c =
-    let d = due c.args.end c.copy-name.result c.args.addr in
-    let there : in_set c.self.inside.dues.keys d ≡ true = (λ i. in_set (c.self.view_is i) (due c.args.end (c.copy-name.ensures i) c.args.addr)) ∙ c.requires.there in
+    let d = due c.args.end c.set.new.self c.args.addr in
+    let there : in_set c.self.inside.dues.keys d ≡ true = (λ i. in_set (c.self.view_is i) (due c.args.end (c.set.ensures i) c.args.addr)) ∙ c.requires.there in
     let gone : c.remove.result ≡ true = c.remove.ensures.test ∙ (set_is c.self.inside.dues.keys d ∙ there) in
     (λ i. length c.remove.new.self.keys + (if sym gone i then 1 else 0)) ∙ (c.remove.ensures.len ∙ ap length c.self.view_is)
 

@@ -13,11 +13,11 @@ returns-in_default-clause-live g c q = live_from c.args.now (members_of c.self.i
 
 pub invariant_of-self-2 : goal.invariant_of-self-2
 invariant_of-self-2 g c =
-    pops c.self.inside.members.entries c.take_out.new.members.entries c.self.inside.ends c.take_due.new.self c.in-Some.due c.take_out.result c.self.invariant c.take_out.ensures.names c.in-Some.ensures.distinct c.in-Some.ensures.there c.take_out.ensures.taken c.take_out.ensures.none c.in-Some.ensures.found
+    pops c.self.inside.members.entries c.take_out.new.members.entries c.self.inside.ends c.take_due.new.self c.in-Some.due c.take_out.result c.self.invariant c.take_out.ensures.names c.in-Some.ensures.distinct c.in-Some.ensures.there (rw c.as_name.ensures at c.take_out.ensures.taken) (rw c.as_name.ensures at c.take_out.ensures.none) c.in-Some.ensures.found
 
 pub returns-clause-leases : goal.returns-clause-leases
 returns-clause-leases g c q =
-    pops_live c.args.now c.self.inside.members.entries c.take_out.new.members.entries c.self.inside.ends c.in-Some.due c.take_out.result c.self.invariant c.in-Some.ensures.there c.in-Some.ensures.over c.take_out.ensures.taken c.take_out.ensures.none q
+    pops_live c.args.now c.self.inside.members.entries c.take_out.new.members.entries c.self.inside.ends c.in-Some.due c.take_out.result c.self.invariant c.in-Some.ensures.there c.in-Some.ensures.over (rw c.as_name.ensures at c.take_out.ensures.taken) (rw c.as_name.ensures at c.take_out.ensures.none) q
     ∙ ap (λ (es : Entries). filter (is_live c.args.now) (members_of es q)) c.self.view_is
 
 pub returns-clause-count : goal.returns-clause-count
