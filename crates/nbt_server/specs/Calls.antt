@@ -1,6 +1,6 @@
 -- What a server's calls make of it: it starts, resumes, handles a datagram, or runs out of memory (our profile). Which
 -- leases live afterwards is all that is said of its table.
-use Rattle.std.specs.Prelude.{◌≡◌, ℕ, ◌≤◌, List, [], Option, Some, None, IfSome, is_some}
+use Rattle.std.specs.Prelude.{◌≡◌, ℕ, ◌≤◌, List, [], Option, None, IfSome, is_some}
 use Rattle.nbt_packet.specs.Message.{MessageValue}
 use Rattle.nbt_packet.specs.Spelling.{Spells, AreWritten}
 use Rattle.nbt_packet.specs.Text.{text}

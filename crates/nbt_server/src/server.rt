@@ -149,10 +149,7 @@ impl Server {
             return Ok(unanswered(message));
         }
         let limit = self.client_rows;
-        match serve(&mut self.table, limit, now, from.ip, message, out) {
-            Ok(outcome) => Ok(outcome),
-            Err(_) => Err(ServerFault::OutOfMemory),
-        }
+        serve(&mut self.table, limit, now, from.ip, message, out)
     }
 
     /// Handles a datagram as [`Server::handle`] does, with the same refusals. Returns whether `out` has a reply to `from`, at

@@ -1,6 +1,6 @@
 //! What a name server does with a message (RFC 1002 section 5.1.4).
 
-ghost use Rattle.std.specs.Prelude.{◌≡◌, ◌≢◌, ℕ, List, ◌+◌, ◌*◌, ◌<◌, ◌≤◌, ◌↔◌, Option, Some, IsTrue, IfOk, IfSome, IfNone, OnErr, [], length};
+ghost use Rattle.std.specs.Prelude.{◌≡◌, ◌≢◌, ℕ, List, ◌+◌, ◌*◌, ◌<◌, ◌≤◌, ◌↔◌, Option, Some, Ok, IsTrue, IfOk, IfErr, IfSome, IfNone, OnErr, [], length};
 ghost use Rattle.nbt_packet.specs.Message.{MessageValue, message_of, query, release, registered, released};
 ghost use Rattle.nbt_packet.specs.Spelling.{Spells, AreWritten};
 ghost use Rattle.nbt_packet.specs.Text.{entries_most};
@@ -11,12 +11,12 @@ ghost use Rattle.nbt_lease.specs.Rules.{IsLeastEnd};
 ghost use Rattle.nbt_server.specs.Outcomes.{rcode_of, claim_in, not_own, holder, refusal_by, grant_outcome, IsUnanswered, Does, DoesWithin};
 ghost use Rattle.nbt_server.specs.Serving.{AsksFor, IsOwn, seconds_until, entries, listed, is_cut, IsFull, IsOverLimit, NeedsMemory};
 
+use crate::fault::ServerFault;
 use crate::outcome::{Claim, Outcome, Refusal};
 use arrayvec::ArrayVec;
 use nbt_lease::{Grant, GrantFault, Moment, Released, Table};
 use nbt_name::{LentName, Name};
 use nbt_packet::{Message, Registration, entries_most, entry_octets, write};
-use std::alloc::AllocError;
 
 /// RCODE NAM_ERR: the name has no lease (RFC 1002 section 4.2.14).
 const NAME_ERROR: u8 = 3;
@@ -26,7 +26,8 @@ const NAME_ERROR: u8 = 3;
 const ENTRIES_OCTETS: usize = 516;
 
 /// Handles a message from the address `ip` by the rules, and returns what it did. A client may have `client_rows` live leases,
-/// if that is limited. `out` has the reply, or stays empty if there is none.
+/// if that is limited. `out` has the reply, or stays empty if there is none. An outcome has a name by value, so what makes one returns
+/// what is returned here, and it isn't moved again on its way out.
 pub(crate) fn serve(
     table: &mut Table,
     client_rows: Option<u32>,
@@ -34,11 +35,12 @@ pub(crate) fn serve(
     ip: u32,
     message: Message<'_>,
     out: &mut ArrayVec<u8, 576>,
-) -> Result<Outcome, AllocError>
+) -> Result<Outcome, ServerFault>
     requires limits { IsConfig table.old.config }
     requires time { table.old.last ≤ now }
     requires empty { out.old.items ≡ [] }
     ensures does { IfOk result (λ outcome. DoesWithin client_rows table.old now ip (message_of message.entry) outcome out.new.items (leases_at now table.new.rows)) }
+    ensures fault { IfErr result (λ fault. fault ≡ ServerFault.OutOfMemory) }
     ensures memory { OnErr result (NeedsMemory table.old now ip (message_of message.entry)) }
     ensures room { OnErr result (¬ IsOverLimit client_rows table.old now ip (message_of message.entry)) }
     ensures refused { OnErr result ((leases_at now table.new.rows ≡ leases_at now table.old.rows) × (out.new.items ≡ [])) }
@@ -48,10 +50,7 @@ pub(crate) fn serve(
     match message {
         Message::Registration(asked) => lease(table, client_rows, now, ip, asked, out),
         Message::Refresh(asked) => lease(table, client_rows, now, ip, asked, out),
-        Message::Overwrite(asked) => {
-            let claim = Claim::from_registration(&asked);
-            Ok(refuse(asked, claim, Refusal::Overwrite, out))
-        }
+        Message::Overwrite(asked) => refuse(asked, Refusal::Overwrite, out),
         Message::Release {
             id,
             name,
@@ -61,7 +60,7 @@ pub(crate) fn serve(
             let name = name.to_name();
             Ok(release(table, now, ip, id, Claim { name, kind, addr }, out))
         }
-        Message::Query { id, name } => Ok(find(table, now, id, name.to_name(), out)),
+        Message::Query { id, name } => find(table, now, id, name, out),
         _ => Ok(Outcome::ForNodes),
     }
 }
@@ -102,30 +101,31 @@ fn lease(
     ip: u32,
     asked: Registration<'_>,
     out: &mut ArrayVec<u8, 576>,
-) -> Result<Outcome, AllocError>
+) -> Result<Outcome, ServerFault>
     requires { table.old.last ≤ now }
     ensures does { IfOk result (λ outcome. (m : MessageValue) → AsksFor m asked.entry → DoesWithin client_rows table.old now ip m outcome out.new.items (leases_at now table.new.rows)) }
+    ensures fault { IfErr result (λ fault. fault ≡ ServerFault.OutOfMemory) }
     ensures memory { OnErr result ((m : MessageValue) → AsksFor m asked.entry → NeedsMemory table.old now ip m) }
     ensures room { OnErr result ((m : MessageValue) → AsksFor m asked.entry → ¬ IsOverLimit client_rows table.old now ip m) }
     ensures refused { OnErr result ((leases_at now table.new.rows ≡ leases_at now table.old.rows) × (out.new.items ≡ out.old.items)) }
     ensures config { table.new.config ≡ table.old.config }
     ensures last { table.new.last ≤ now }
 {
-    let claim = Claim::from_registration(&asked);
     if let Some(refusal) = refusal_of(ip, &asked.name, asked.addr) {
-        return Ok(refuse(asked, claim, refusal, out));
+        return refuse(asked, refusal, out);
     }
+    let claim = Claim::from_registration(&asked);
     if is_full(client_rows, table, now, ip, &claim.name) {
-        return Ok(refuse(asked, claim, Refusal::ClientFull, out));
+        return refuse(asked, Refusal::ClientFull, out);
     }
     let fault = match table.grant(now, &claim.name, asked.addr, asked.kind, asked.ttl) {
-        Ok(grant) => return Ok(accept(asked, claim, grant, out)),
+        Ok(grant) => return accept(asked, claim, grant, out),
         Err(fault) => fault,
     };
     let Some(refusal) = refusal_by(fault, table, now, &claim.name) else {
-        return Err(AllocError);
+        return Err(ServerFault::OutOfMemory);
     };
-    Ok(refuse(asked, claim, refusal, out))
+    refuse(asked, refusal, out)
 }
 
 /// Whether a client is full for a name: it has no lease of it, and as many as it may have. A lease of the name is looked for
@@ -184,16 +184,16 @@ fn accept(
     claim: Claim,
     grant: Grant,
     out: &mut ArrayVec<u8, 576>,
-) -> Outcome
+) -> Result<Outcome, ServerFault>
     requires { claim ≡ claim_in asked }
-    ensures outcome { result ≡ grant_outcome (claim_in asked.entry) grant }
+    ensures outcome { result ≡ Ok (grant_outcome (claim_in asked.entry) grant) }
     ensures written { AreWritten (Some (registered 0 (record asked.entry { ttl = grant.seconds }))) out.new.items }
 {
     respond(asked, 0, grant.seconds, out);
     if grant.renewed {
-        Outcome::Renewed(claim, grant.seconds)
+        Ok(Outcome::Renewed(claim, grant.seconds))
     } else {
-        Outcome::Granted(claim, grant.seconds)
+        Ok(Outcome::Granted(claim, grant.seconds))
     }
 }
 
@@ -201,16 +201,15 @@ fn accept(
 /// 4.2.6).
 fn refuse(
     asked: Registration<'_>,
-    claim: Claim,
     refusal: Refusal,
     out: &mut ArrayVec<u8, 576>,
-) -> Outcome
-    requires { claim ≡ claim_in asked }
-    ensures outcome { result ≡ Outcome.Refused (claim_in asked.entry) refusal }
+) -> Result<Outcome, ServerFault>
+    ensures outcome { result ≡ Ok (Outcome.Refused (claim_in asked.entry) refusal) }
     ensures written { AreWritten (Some (registered (rcode_of refusal) (record asked.entry { ttl = 0 }))) out.new.items }
 {
+    let claim = Claim::from_registration(&asked);
     respond(asked, refusal.rcode(), 0, out);
-    Outcome::Refused(claim, refusal)
+    Ok(Outcome::Refused(claim, refusal))
 }
 
 /// Leaves in `out` a response to a registration, a refresh or an overwrite.
@@ -288,14 +287,22 @@ fn respond_release(id: u16, rcode: u8, claim: &Claim, out: &mut ArrayVec<u8, 576
 /// Leaves in `out` the response to a query, and returns which it is: the first leases of the name, as many as fit, with the
 /// seconds until the first of all its leases expires; or that it has no lease (RFC 1002 sections 4.2.13 and 4.2.14).
 /// Expired leases are removed first, so that the first expiry is looked up.
-fn find(table: &mut Table, now: Moment, id: u16, name: Name, out: &mut ArrayVec<u8, 576>) -> Outcome
+fn find(
+    table: &mut Table,
+    now: Moment,
+    id: u16,
+    name: LentName<'_>,
+    out: &mut ArrayVec<u8, 576>,
+) -> Result<Outcome, ServerFault>
     requires limits { IsConfig table.old.config }
     requires time { table.old.last ≤ now }
-    ensures does { (ip : ℕ) → Does table.old now ip (query id name) result out.new.items (leases_at now table.new.rows) }
+    ensures does { IfOk result (λ outcome. (ip : ℕ) → Does table.old now ip (query id name.entry) outcome out.new.items (leases_at now table.new.rows)) }
+    ensures done { OnErr result ⊥ }
     ensures config { table.new.config ≡ table.old.config }
     ensures last { table.new.last ≤ now }
 {
     table.sweep(now);
+    let name = name.to_name();
     let mut entries = ArrayVec::new();
     let listed = list(table, now, &name, &mut entries);
     let Some(end) = listed.end else {
@@ -305,7 +312,7 @@ fn find(table: &mut Table, now: Moment, id: u16, name: Name, out: &mut ArrayVec<
             name: Some(name.lend()),
         };
         write(&missing, out);
-        return Outcome::NotFound(name);
+        return Ok(Outcome::NotFound(name));
     };
     let found = Message::Found {
         id,
@@ -315,7 +322,7 @@ fn find(table: &mut Table, now: Moment, id: u16, name: Name, out: &mut ArrayVec<
         cut: listed.cut,
     };
     write(&found, out);
-    Outcome::Found(name)
+    Ok(Outcome::Found(name))
 }
 
 /// The seconds until an expiry, rounded up.

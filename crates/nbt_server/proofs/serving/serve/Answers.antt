@@ -16,13 +16,13 @@ pub returns-in-Refresh-clause-memory : goal.returns-in-Refresh-clause-memory
 returns-in-Refresh-clause-memory c = rw c.in-Refresh.is (on_err c.lease-in-Refresh.result c.lease-in-Refresh.ensures.memory (λ needs. needs _ (by_refresh _)))
 
 pub returns-in-Overwrite-clause-does : goal.returns-in-Overwrite-clause-does
-returns-in-Overwrite-clause-does c = rw c.in-Overwrite.is (by_rule (within_limit _ _ _ _ _ refl) (_, refuses_overwrite c.in-Overwrite.asked, c.refuse.ensures.outcome, c.refuse.ensures.written))
+returns-in-Overwrite-clause-does c = rw (c.in-Overwrite.is, c.refuse.ensures.outcome) (by_rule (within_limit _ _ _ _ _ refl) (_, refuses_overwrite c.in-Overwrite.asked, refl, c.refuse.ensures.written))
 
 pub returns-in-Release-clause-does : goal.returns-in-Release-clause-does
 returns-in-Release-clause-does c = rw c.in-Release.is (by_rule (within_limit _ _ _ _ _ refl) (rw c.to_name-name.ensures at c.release.ensures.does))
 
 pub returns-in-Query-clause-does : goal.returns-in-Query-clause-does
-returns-in-Query-clause-does c = rw c.in-Query.is (by_rule (within_limit _ _ _ _ _ refl) (rw c.to_name.ensures at (c.find.ensures.does c.args.ip)))
+returns-in-Query-clause-does c = rw c.in-Query.is (on_ok c.find.result c.find.ensures.does (λ outcome does. by_rule (within_limit _ _ _ _ _ refl) (does c.args.ip)))
 
 pub returns-in_default-clause-does : goal.returns-in_default-clause-does
 returns-in_default-clause-does c =

@@ -1,8 +1,7 @@
 use Rattle.std.proofs.Common.{◌≡◌, ℕ, ◌≤◌, List, Option, Some, None, refl, sym, subst, arith}
 use Rattle.nbt_server.proofs.Common.{IfSome, MessageValue, message_of, Spells, AreWritten, text, leases_at, Leases, by_limit, by_rule, DoesWithin, IsDone, refusal, server_error, turns_away, Outcome, ServerHandles, ServerValue, speaks_from, ServesOctets, is_silent, is_no_message, serves}
-use Rattle.nbt_server.proofs.Rules.{replies, unanswered_replies}
+use Rattle.nbt_server.proofs.Rules.{on_ok, replies, unanswered_replies}
 use Rattle.nbt_server.proofs.server.Server.handle.Goals as goal
-use Rattle.nbt_server.proofs.server.Server.handle.Goals.{in-Ok, in-Err}
 
 -- a reply's written form spells it
 spelled_by : (reply : Option MessageValue) (octets : List ℕ) → AreWritten reply octets → IfSome reply (λ message. Spells (text message) message)
@@ -57,30 +56,21 @@ returns-then-get-speaks_from-clause-handled c =
 
 pub returns-clause-handled : goal.returns-clause-handled
 returns-clause-handled c =
-    elim c.match-serve.branch [
-      | in-Ok w ↦
-          let s = w.in-Ok.ensures.does in
-          rw (w.result-is, ← c.self.view_is)
-          (handles _ _ _ _ _ _ w.in-Ok.outcome _ (omega arith) (omega arith) ((c.in-Some.ensures (message_of c.in-Some.message)).0 refl) refl refl w.in-Ok.ensures.config refl s)
-      | in-Err w ↦ rw w.result-is tt
-    ]
+    rw (← c.self.view_is) (on_ok c.serve.result c.serve.ensures.does (λ outcome does.
+    handles _ _ _ _ _ _ outcome _ (omega arith) (omega arith) ((c.in-Some.ensures (message_of c.in-Some.message)).0 refl) refl refl c.serve.ensures.config refl does))
 
 pub returns-clause-memory : goal.returns-clause-memory
 returns-clause-memory c = λ is.
-    elim c.match-serve.branch [
-      | in-Ok w ↦ let e = rw w.result-is at is in absurd cc
-      | in-Err w ↦
-          rw (← c.self.view_is) (record {
-            goes_on = omega arith;
-            message = message_of c.in-Some.message;
-            speaks = omega arith;
-            spelled = (c.in-Some.ensures (message_of c.in-Some.message)).0 refl;
-            room = w.in-Err.ensures.room;
-            needs = w.in-Err.ensures.memory;
-            leases = w.in-Err.ensures.refused.0;
-            start = refl;
-            last = refl;
-            config = w.in-Err.ensures.config;
-            limit = refl;
-          })
-    ]
+    rw (← c.self.view_is) (record {
+      goes_on = omega arith;
+      message = message_of c.in-Some.message;
+      speaks = omega arith;
+      spelled = (c.in-Some.ensures (message_of c.in-Some.message)).0 refl;
+      room = rw is at c.serve.ensures.room;
+      needs = rw is at c.serve.ensures.memory;
+      leases = (rw is at c.serve.ensures.refused).0;
+      start = refl;
+      last = refl;
+      config = c.serve.ensures.config;
+      limit = refl;
+    })
