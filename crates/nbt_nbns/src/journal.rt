@@ -2,6 +2,7 @@
 
 ghost use Rattle.std.specs.Prelude.{◌≡◌};
 ghost use Rattle.nbt_nbns.specs.Journaling.{LogsIn, KeepsIn, dropped_of};
+ghost use Rattle.nbt_nbns.specs.Reports.{SaysStats};
 
 use crate::keeper::Keeper;
 use crate::logger::Logger;
@@ -55,11 +56,6 @@ impl<D: Clock, L: Place> Watcher for Journal<D, L> {
         log_in(&mut self.log, self.dates, shown, writer, errors);
         let dropped = dropped_of(&self.log).saturating_sub(before);
         self.tally.count(&shown.entry, dropped);
-        let stats = StatsReport {
-            tally: self.tally,
-            health: shown.health,
-            origin: self.origin,
-        };
         let leases = Listing::Leases;
         keep_in(
             &mut self.leases,
@@ -78,12 +74,13 @@ impl<D: Clock, L: Place> Watcher for Journal<D, L> {
             shown.at,
             errors,
         );
-        keep_in(
+        keep_stats(
             &mut self.stats,
-            &stats,
+            &self.tally,
+            self.origin,
             server,
             self.dates,
-            shown.at,
+            shown,
             errors,
         );
     }
@@ -127,5 +124,27 @@ fn keep_in<T: Report, L: Place, E: Write>(
 {
     if let Some(keeper) = kept {
         keeper.keep(report, server, &dates, now, errors);
+    }
+}
+
+/// Looks at the statistics, if they are kept: only then are they put together.
+fn keep_stats<L: Place, E: Write>(
+    kept: &mut Option<Keeper<L>>,
+    tally: &Tally,
+    origin: Origin,
+    server: &Server,
+    dates: Dates,
+    shown: &Shown,
+    errors: &mut E,
+)
+    ensures { KeepsIn L.puts (SaysStats (record { tally = tally.now; health = shown.now.health; origin = origin }) server.now dates shown.now.at) shown.now.at kept.old kept.new }
+{
+    if let Some(keeper) = kept {
+        let stats = StatsReport {
+            tally: *tally,
+            health: shown.health,
+            origin,
+        };
+        keeper.keep(&stats, server, &dates, shown.at, errors);
     }
 }
