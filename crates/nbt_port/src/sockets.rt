@@ -1,6 +1,6 @@
 //! The sockets of a port that has several addresses.
 
-ghost use Rattle.std.specs.Prelude.{◌≤◌, IfOk, IfSome};
+ghost use Rattle.std.specs.Prelude.{◌≤◌, IfOk};
 ghost use Rattle.nbt_port.specs.Numbers.{octets_most};
 
 use crate::port::MOST;
@@ -28,17 +28,15 @@ struct OpenSocket {
 }
 
 impl OpenSocket {
-    /// The system's answer to a receive; `None` where nothing has come, and from then on it isn't ready.
-    fn receive(&mut self, buffer: &mut [u8; MOST]) -> Option<io::Result<(usize, SocketAddr)>>
-        ensures within { IfSome result (λ answer. IfOk answer (λ a. a.0 ≤ octets_most)) }
+    /// The system's answer to a receive. Where that says that nothing has come, it isn't ready from then on.
+    fn receive(&mut self, buffer: &mut [u8; MOST]) -> io::Result<(usize, SocketAddr)>
+        ensures within { IfOk result (λ a. a.0 ≤ octets_most) }
     {
-        match self.socket.recv_from(buffer) {
-            Err(error) if error.kind() == ErrorKind::WouldBlock => {
-                self.ready = false;
-                None
-            }
-            answer => Some(answer),
+        let answer = self.socket.recv_from(buffer);
+        if says_nothing_came(&answer) {
+            self.ready = false;
         }
+        answer
     }
 
     /// The system's answer to a send, which waits where the socket has no room.
@@ -138,15 +136,13 @@ impl Sockets {
         ensures within { IfOk result (λ a. a.0 ≤ octets_most) }
     {
         if self.are_ready()? {
-            if let Some(answer) = self.answer_to(buffer) {
+            let answer = self.answer_to(buffer);
+            if !says_nothing_came(&answer) {
                 return answer;
             }
         }
         self.learn(wait)?;
-        match self.answer_to(buffer) {
-            Some(answer) => answer,
-            None => Err(io::Error::from(ErrorKind::WouldBlock)),
-        }
+        self.answer_to(buffer)
     }
 
     /// Whether some socket is ready. Where only some are, it first learns which others are too, so that these don't starve them.
@@ -175,50 +171,58 @@ impl Sockets {
         Ok(())
     }
 
-    /// The answer of the first ready socket behind the one that the last answer was from; `None` where nothing has come.
-    fn answer_to(&mut self, buffer: &mut [u8; MOST]) -> Option<io::Result<(usize, SocketAddr)>>
-        ensures within { IfSome result (λ answer. IfOk answer (λ a. a.0 ≤ octets_most)) }
+    /// The answer of the first ready socket behind the one that the last answer was from, to which something has come. It says where
+    /// nothing has come to any.
+    fn answer_to(&mut self, buffer: &mut [u8; MOST]) -> io::Result<(usize, SocketAddr)>
+        ensures within { IfOk result (λ a. a.0 ≤ octets_most) }
     {
-        let first = self.next;
-        match self.answer_within(first, usize::MAX, buffer) {
-            Some(answer) => Some(answer),
-            None => self.answer_within(0, first, buffer),
+        for _ in 0..self.list.len() {
+            let Some(place) = self.next_ready() else {
+                break;
+            };
+            let answer = self.answer_at(place, buffer);
+            if !says_nothing_came(&answer) {
+                return answer;
+            }
+        }
+        Err(io::Error::from(ErrorKind::WouldBlock))
+    }
+
+    /// The place of the first ready socket behind the one that the last answer was from; after the last place comes the first.
+    fn next_ready(&self) -> Option<usize> {
+        match self.ready_within(self.next, usize::MAX) {
+            Some(place) => Some(place),
+            None => self.ready_within(0, self.next),
         }
     }
 
-    /// The same, of those in these places.
-    fn answer_within(
-        &mut self,
-        from: usize,
-        to: usize,
-        buffer: &mut [u8; MOST],
-    ) -> Option<io::Result<(usize, SocketAddr)>>
-        ensures within { IfSome result (λ answer. IfOk answer (λ a. a.0 ≤ octets_most)) }
-    {
+    /// The place of the first ready socket of those in these places.
+    fn ready_within(&self, from: usize, to: usize) -> Option<usize> {
         for place in from..to.min(self.list.len()) {
-            if let Some(answer) = self.answer_at(place, buffer) {
-                return Some(answer);
+            if self.list[place].ready {
+                return Some(place);
             }
         }
         None
     }
 
-    /// The answer of the socket in this place; `None` where it isn't ready, or nothing has come to it.
+    /// The answer of the socket in this place.
     fn answer_at(
         &mut self,
         place: usize,
         buffer: &mut [u8; MOST],
-    ) -> Option<io::Result<(usize, SocketAddr)>>
-        ensures within { IfSome result (λ answer. IfOk answer (λ a. a.0 ≤ octets_most)) }
+    ) -> io::Result<(usize, SocketAddr)>
+        ensures within { IfOk result (λ a. a.0 ≤ octets_most) }
     {
-        let socket = self.list.get_mut(place)?;
-        if !socket.ready {
-            return None;
+        let Some(socket) = self.list.get_mut(place) else {
+            return Err(io::Error::from(ErrorKind::WouldBlock));
+        };
+        let answer = socket.receive(buffer);
+        if !says_nothing_came(&answer) {
+            self.last = Some(socket.at);
+            self.next = place.wrapping_add(1);
         }
-        let answer = socket.receive(buffer)?;
-        self.last = Some(socket.at);
-        self.next = place.wrapping_add(1);
-        Some(answer)
+        answer
     }
 
     /// The answer to a send from the socket at this address, or from the first one for none. An error says that the address isn't
@@ -232,6 +236,14 @@ impl Sockets {
             Some(socket) => socket.send(to, octets),
             None => Err(io::Error::from(ErrorKind::AddrNotAvailable)),
         }
+    }
+}
+
+/// Whether an answer says that nothing has come.
+fn says_nothing_came(answer: &io::Result<(usize, SocketAddr)>) -> bool {
+    match answer {
+        Ok(_) => false,
+        Err(error) => error.kind() == ErrorKind::WouldBlock,
     }
 }
 
