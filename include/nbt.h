@@ -250,7 +250,7 @@ uint8_t nbt_node_start_from(struct nbt_node *node, struct nbt_addr own, struct n
 /* Why a name isn't registered, released or looked up (our profile). They are tried in this order: CLOCK_BACK, BAD_NAME, BUSY or
  * NOT_HELD, QUIET, FULL. */
 enum {
-    NBT_ASK_QUIET = 1,        /* the name is being released, or rests */
+    NBT_ASK_QUIET = 1,        /* the name is being released, or rests, or the node rests since its start */
     NBT_ASK_BUSY = 2,         /* it is being registered, or is held */
     NBT_ASK_FULL = 3,         /* no slot is free */
     NBT_ASK_CLOCK_BACK = 4,   /* `now` is before the start, or before an earlier call that wasn't refused */
@@ -293,7 +293,7 @@ enum {
     NBT_EVENT_RENEWED = 3,   /* the hold goes on */
     NBT_EVENT_REFUSED = 4,   /* the name isn't granted: another machine has it, or the server has no room */
     NBT_EVENT_LOST = 5,      /* the name isn't held or requested any more: the server says so */
-    NBT_EVENT_FREED = 6,     /* the server has the release; `rcode` is 0 where it knew the name */
+    NBT_EVENT_FREED = 6,     /* the server has replied to the release; `rcode` is 0 where it confirms it, also of a name that nobody has */
     NBT_EVENT_WAIT = 7,      /* the server asks to wait: the request is sent again later */
     NBT_EVENT_FOUND = 8,     /* who holds the name that was looked up */
     NBT_EVENT_NOT_FOUND = 9, /* nobody does */

@@ -9,7 +9,7 @@
  *     cc -Iinclude $(pkg-config --cflags lwip) -o lwip_node examples/c/lwip_node.c libnbt.a $(pkg-config --libs lwip)
  *     PRECONFIGURED_TAPIF=tap0 ./lwip_node 'FILER#20' 10.0.0.5 255.255.255.0 10.0.0.1 [LONGEST]
  *
- * LONGEST is the server's longest lease in seconds, 3600 if it isn't given.
+ * LONGEST is the server's longest lease in seconds, 3600 if it isn't given; `nbt nbns` has 300 then.
  */
 #define _POSIX_C_SOURCE 200809L
 #include <lwip/init.h>

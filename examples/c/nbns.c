@@ -3,8 +3,9 @@
  *
  *     nbns ADDRESS [PORT [LONGEST]]        nbns 10.0.0.1 137 600
  *
- * Port 137 needs privileges. LONGEST is the longest lease in seconds, 3600 if it isn't given. The server answers nothing until that
- * time has passed since its start, so that no lease of an earlier run can still be alive; it says so, and when it begins to answer.
+ * Port 137 needs privileges. LONGEST is the longest lease in seconds, 3600 if it isn't given; `nbt host` has 300 then. The server
+ * answers nothing until that time has passed since its start, so that no lease of an earlier run can still be alive; it says so, and
+ * when it begins to answer.
  */
 #define _POSIX_C_SOURCE 200809L
 #include <arpa/inet.h>

@@ -4,9 +4,9 @@
  *     node NAME OWN SERVER [PORT [LONGEST]]        node 'FILER#20' 10.0.0.5 10.0.0.1
  *
  * Port 137 needs privileges. With PORT, node and server both use that port. LONGEST is the server's longest lease in seconds, 3600 if
- * it isn't given. A name that was refused is requested again after 10 seconds, and one that was lost, or got no reply, as soon as the
- * node allows it. A program that uses the name asks nbt_node_holds each time: a name that gets no reply to its refreshes is held until
- * its lease expires, and no longer.
+ * it isn't given; `nbt nbns` has 300 then. A name that was refused is requested again after 10 seconds, and one that was lost, or got
+ * no reply, as soon as the node allows it. A program that uses the name asks nbt_node_holds each time: a name that gets no reply to
+ * its refreshes is held until its lease expires, and no longer.
  */
 #define _POSIX_C_SOURCE 200809L
 #include <arpa/inet.h>
