@@ -1,7 +1,7 @@
 # Completion of nbt for bash.
 
 _nbt() {
-    local word=${COMP_WORDS[COMP_CWORD]} before=${COMP_WORDS[COMP_CWORD - 1]} given words='' reply
+    local word=${COMP_WORDS[COMP_CWORD]} before=${COMP_WORDS[COMP_CWORD - 1]} given words='' reply again
     local commands='lookup status nbns host release scan answer show check sim serve node loop help' arguments=0
     COMPREPLY=()
 
@@ -45,7 +45,11 @@ _nbt() {
         status) words='--also --scope --exact --tries --wait --bind --help' ;;
         nbns) words='--bind --life --longest --for --log --log-broadcasts --leases --hosts --stats --strict --rows-per-client --allow --fixed --state --silent-after-boot --help' ;;
         host | release) words='--server --bind --group --scope --exact --life --longest --for --log --help' ;;
-        scan) words='--rate --tries --wait --port --bind --sorted --long --hosts --json --progress --help' ;;
+        scan)
+            words='--rate --tries --wait --port --bind --sorted --progress --help'
+            # Of these a scan takes one.
+            [[ " ${COMP_WORDS[*]:2:COMP_CWORD-2} " =~ ' '--(long|hosts|json)' ' ]] || words+=' --long --hosts --json'
+            ;;
         answer) words='--at --help' ;;
         show) words='--explain --help' ;;
         serve | node) words='--forever --help' ;;
@@ -59,9 +63,11 @@ _nbt() {
         esac
     fi
 
-    # An option that is given isn't offered again, except --group, --allow and --also.
+    # An option that is given isn't offered again, except these.
+    again=' --group --allow --also '
+    [[ ${COMP_WORDS[1]} != nbns ]] || again+='--bind '
     while IFS= read -r reply; do
-        [[ $reply == --?* && $reply != --group && $reply != --allow && $reply != --also && " ${COMP_WORDS[*]:1:COMP_CWORD-1} " == *" $reply "* ]] || COMPREPLY+=("$reply")
+        [[ $reply == --?* && $again != *" $reply "* && " ${COMP_WORDS[*]:1:COMP_CWORD-1} " == *" $reply "* ]] || COMPREPLY+=("$reply")
     done < <(compgen -W "$words" -- "$word")
 }
 
