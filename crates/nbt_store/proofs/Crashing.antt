@@ -85,7 +85,7 @@ held_after (appended c) asked folder h kept asks well held = (h, held_more folde
 held_after synced asked folder h kept e well held =
     let is : after_disk_calls asked folder ≡ folder_at (held.front ++ held.behind) (length (held.front ++ held.behind)) = ap (λ (xs : List DiskCall). after_disk_calls xs folder) e ∙ ap (after_disk_call flushed) held.folder_is in
     (h, held_whole (after_disk_calls asked folder) (held.front ++ held.behind) h kept.changes is held.file held.closed)
-held_after (renewed now rows) asked folder h kept asks well held = (now, held_whole (after_disk_calls asked folder) asks.0 now (begun_all rows) (ap (λ (xs : List DiskCall). after_disk_calls xs folder) asks.2) asks.1.file asks.1.closed)
+held_after (renewed now rows) asked folder h kept asks well held = (now, held_whole (after_disk_calls asked folder) asks.0 now (begun_all now.last rows) (ap (λ (xs : List DiskCall). after_disk_calls xs folder) asks.2) asks.1.file asks.1.closed)
 held_after (append_failed c) asked folder h kept asks well held = absurd cc
 held_after sync_failed asked folder h kept asks well held = absurd cc
 held_after (renew_failed now rows) asked folder h kept asks well held = absurd cc
@@ -103,8 +103,8 @@ held_in_turn _ _ folder h kept (one_more_asks call calls asked others asks in_tu
     let all = held_in_turn calls others (after_disk_calls asked folder) one.0 (after_call call kept) in_turn well.1 one.1 in
     (all.0, subst (λ (f : Folder). Holds f all.0 (after_calls calls (after_call call kept))) (sym (asked_append asked others folder)) all.1)
 
-held_at_first : (text : List ℕ) (h : Header) (rows : Rows) → IsNewFile text h rows → Holds (folder_of text) h (kept_rows rows)
-held_at_first text h rows new = held_whole (folder_of text) text h (begun_all rows) refl new.file new.closed
+held_at_first : (text : List ℕ) (h : Header) (rows : Rows) → IsNewFile text h rows → Holds (folder_of text) h (kept_rows h.last rows)
+held_at_first text h rows new = held_whole (folder_of text) text h (begun_all h.last rows) refl new.file new.closed
 
 -- what a crash leaves between two calls
 left_held : (folder : Folder) (calls : List DiskCall) (h : Header) (kept : Kept) (left : List ℕ) → Holds (after_disk_calls calls folder) h kept → CrashLeaves folder calls left → LeavesOf left (MayLeave kept.changes kept.durable)
@@ -112,10 +112,10 @@ left_held folder calls h kept left held (old_file cut) = cut_held (after_disk_ca
 left_held folder calls h kept left held (new_file before new ends some cut) = absurd (none_beside (after_disk_calls calls folder) h kept new held some)
 
 pub left_between : (text : List ℕ) (h : Header) (rows : Rows) (calls : List StoreCall) (asked : List DiskCall) (left : List ℕ) → IsNewFile text h rows → AskInTurn calls asked → WentWell calls → CrashLeaves (folder_of text) asked left
-    → LeavesOf left (MayLeaveAfter (kept_rows rows) calls)
+    → LeavesOf left (MayLeaveAfter (kept_rows h.last rows) calls)
 left_between text h rows calls asked left new in_turn well crash =
-    let held = held_in_turn calls asked (folder_of text) h (kept_rows rows) in_turn well (held_at_first text h rows new) in
-    let found = left_held (folder_of text) asked held.0 (after_calls calls (kept_rows rows)) left held.1 crash in
+    let held = held_in_turn calls asked (folder_of text) h (kept_rows h.last rows) in_turn well (held_at_first text h rows new) in
+    let found = left_held (folder_of text) asked held.0 (after_calls calls (kept_rows h.last rows)) left held.1 crash in
     (found.0, found.1, found.2, first_changes found.3)
 
 -- ---- within a call
@@ -155,7 +155,7 @@ ends_held folder tail h kept left held (inr w) = absurd (none_beside (after_disk
 abbrev EndsIn : Kept → StoreCall → (left : List ℕ) → Type 0
 EndsIn kept last left =
     LeavesOf left (MayLeave (after_call last kept).changes (after_call last kept).durable)
-    ⊎ ((now : Header) × (rows : Rows) × (last ≡ renew_failed now rows) × IsFile left now (begun_all rows))
+    ⊎ ((now : Header) × (rows : Rows) × (last ≡ renew_failed now rows) × IsFile left now (begun_all now.last rows))
 
 -- a change that wasn't written is no loss
 one_more_may : (changes : List Change) (durable : ℕ) (c : Change) (left : List Change) → MayLeave changes durable left → MayLeave (changes ++ c ∷ []) durable left
@@ -178,7 +178,7 @@ stopped now rows text _ folder h kept left new at_install held (inr w) =
     let some : Some whole ≡ Some w.0 = w.2 in
     let same : w.0 ≡ whole = cc in
     let cut : IsCutOf whole left = subst (λ (x : Written). IsCutOf x left) same w.3 in
-    inr (now, rows, refl, subst (λ (o : List ℕ). IsFile o now (begun_all rows)) (sym (cut.left_is ∙ take_all cut.size text cut.at_least)) new.file)
+    inr (now, rows, refl, subst (λ (o : List ℕ). IsFile o now (begun_all now.last rows)) (sym (cut.left_is ∙ take_all cut.size text cut.at_least)) new.file)
 
 within : (last : StoreCall) (tail : List DiskCall) (folder : Folder) (h : Header) (kept : Kept) (left : List ℕ) → Asks last tail → Holds folder h kept → Ends folder tail left → EndsIn kept last left
 within (appended c) tail folder h kept left asks held ends = let after = held_after (appended c) tail folder h kept asks refl held in inl (ends_held folder tail after.0 (after_call (appended c) kept) left after.1 ends)
@@ -200,13 +200,13 @@ calls_then (call ∷ calls) last kept = calls_then calls last (after_call call k
 
 leaves_in : (calls : List StoreCall) (last : StoreCall) (kept : Kept) (left : List ℕ) → EndsIn (after_calls calls kept) last left → LeavesOf left (MayLeaveAfter kept (calls ++ last ∷ []))
 leaves_in calls last kept left (inl found) = (found.0, found.1, found.2, first_changes (subst (λ (k : Kept). MayLeave k.changes k.durable found.1) (sym (calls_then calls last kept)) found.3))
-leaves_in calls last kept left (inr w) = (w.0, begun_all w.1, w.3, new_leases calls w.0 w.1 (ap (λ (x : StoreCall). calls ++ x ∷ []) w.2) refl)
+leaves_in calls last kept left (inr w) = (w.0, begun_all w.0.last w.1, w.3, new_leases calls w.0 w.1 (ap (λ (x : StoreCall). calls ++ x ∷ []) w.2) refl)
 
 pub left_within : (text : List ℕ) (h : Header) (rows : Rows) (calls : List StoreCall) (last : StoreCall) (asked tail : List DiskCall) (left : List ℕ) → IsNewFile text h rows → AskInTurn calls asked → WentWell calls → Asks last tail
-    → CrashLeaves (folder_of text) (asked ++ tail) left → LeavesOf left (MayLeaveAfter (kept_rows rows) (calls ++ last ∷ []))
+    → CrashLeaves (folder_of text) (asked ++ tail) left → LeavesOf left (MayLeaveAfter (kept_rows h.last rows) (calls ++ last ∷ []))
 left_within text h rows calls last asked tail left new in_turn well asks crash =
-    let held = held_in_turn calls asked (folder_of text) h (kept_rows rows) in_turn well (held_at_first text h rows new) in
-    leaves_in calls last (kept_rows rows) left (within last tail (after_disk_calls asked (folder_of text)) held.0 (after_calls calls (kept_rows rows)) left asks held.1 (ends_in (folder_of text) asked tail left crash))
+    let held = held_in_turn calls asked (folder_of text) h (kept_rows h.last rows) in_turn well (held_at_first text h rows new) in
+    leaves_in calls last (kept_rows h.last rows) left (within last tail (after_disk_calls asked (folder_of text)) held.0 (after_calls calls (kept_rows h.last rows)) left asks held.1 (ends_in (folder_of text) asked tail left crash))
 
 -- ---- the calls of a store over a disk
 

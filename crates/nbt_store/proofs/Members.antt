@@ -13,8 +13,7 @@ use Rattle.nbt_lease.proofs.Agreeing.{members_at}
 use Rattle.nbt_lease.proofs.Flat.{leases_are}
 use Rattle.nbt_lease.proofs.Rows.{same_leases}
 use Rattle.nbt_store.specs.declared.change.Change.{Change}
-use Rattle.nbt_store.specs.declared.change.Change.TheVariants.{Began, Moved, Released}
-use Rattle.nbt_store.specs.Changes.{after, after_all, with_end, without}
+use Rattle.nbt_store.specs.Changes.{after, after_all, begins, goes, moves, with_end, without}
 use Rattle.nbt_store.specs.Loading.{AreRowsOf}
 
 -- no leases of a name, and it gets none
@@ -26,7 +25,7 @@ none_at_name leases name none = same_leases (at_name name [] leases) leases (λ 
 
 -- a new name's first lease
 pub first_begins : (es fs : Entries) (name : NameValue) (lease : Lease) → lookup (same_name name) es ≡ None → ((q : NameValue) → lookup (same_name q) fs ≡ cond (same_name name q) (Some (lease ∷ [])) (lookup (same_name q) es))
-    → members_of fs ≡ after (Began name lease) (members_of es)
+    → members_of fs ≡ begins name lease (members_of es)
 first_begins es fs name lease new map =
     members_at es fs name (Some (lease ∷ [])) map
     ∙ sym (ap (λ (ls : List Lease). at_name name (without lease.addr ls ++ lease ∷ []) (members_of es)) (ap (λ (o : Option (List Lease)). unwrap_or o []) new))
@@ -43,19 +42,19 @@ none_there : (es : Entries) (name : NameValue) → lookup (same_name name) es �
 none_there es name new = ap (λ (o : Option (List Lease)). unwrap_or o []) new
 
 -- a change of a name that has no leases
-pub none_moves : (es fs : Entries) (name : NameValue) (addr end : ℕ) → lookup (same_name name) es ≡ None → fs ≡ es → members_of fs ≡ after (Moved name addr end) (members_of es)
+pub none_moves : (es fs : Entries) (name : NameValue) (addr end : ℕ) → lookup (same_name name) es ≡ None → fs ≡ es → members_of fs ≡ moves name addr end (members_of es)
 none_moves es fs name addr end new same =
     ap members_of same ∙ sym (none_at_name (members_of es) name (none_there es name new)) ∙ sym (ap (λ (ls : List Lease). at_name name (with_end addr end ls) (members_of es)) (none_there es name new))
 
-pub none_goes : (es fs : Entries) (name : NameValue) (addr : ℕ) → lookup (same_name name) es ≡ None → fs ≡ es → members_of fs ≡ after (Released name addr) (members_of es)
+pub none_goes : (es fs : Entries) (name : NameValue) (addr : ℕ) → lookup (same_name name) es ≡ None → fs ≡ es → members_of fs ≡ goes name addr (members_of es)
 none_goes es fs name addr new same =
     ap members_of same ∙ sym (none_at_name (members_of es) name (none_there es name new)) ∙ sym (ap (λ (ls : List Lease). at_name name (without addr ls) (members_of es)) (none_there es name new))
 
-pub some_moves : (es fs : Entries) (name : NameValue) (addr end : ℕ) → ((q : NameValue) → lookup (same_name q) fs ≡ cond (same_name name q) (Some (with_end addr end (members_of es name))) (lookup (same_name q) es)) → members_of fs ≡ after (Moved name addr end) (members_of es)
+pub some_moves : (es fs : Entries) (name : NameValue) (addr end : ℕ) → ((q : NameValue) → lookup (same_name q) fs ≡ cond (same_name name q) (Some (with_end addr end (members_of es name))) (lookup (same_name q) es)) → members_of fs ≡ moves name addr end (members_of es)
 some_moves es fs name addr end map = members_at es fs name (Some (with_end addr end (members_of es name))) map
 
-pub some_goes : (es fs : Entries) (name : NameValue) (addr : ℕ) → ((q : NameValue) → lookup (same_name q) fs ≡ cond (same_name name q) (Some (without addr (members_of es name))) (lookup (same_name q) es)) → members_of fs ≡ after (Released name addr) (members_of es)
+pub some_goes : (es fs : Entries) (name : NameValue) (addr : ℕ) → ((q : NameValue) → lookup (same_name q) fs ≡ cond (same_name name q) (Some (without addr (members_of es name))) (lookup (same_name q) es)) → members_of fs ≡ goes name addr (members_of es)
 some_goes es fs name addr map = members_at es fs name (Some (without addr (members_of es name))) map
 
-pub some_begins : (es fs : Entries) (name : NameValue) (lease : Lease) → ((q : NameValue) → lookup (same_name q) fs ≡ cond (same_name name q) (Some (without lease.addr (members_of es name) ++ lease ∷ [])) (lookup (same_name q) es)) → members_of fs ≡ after (Began name lease) (members_of es)
+pub some_begins : (es fs : Entries) (name : NameValue) (lease : Lease) → ((q : NameValue) → lookup (same_name q) fs ≡ cond (same_name name q) (Some (without lease.addr (members_of es name) ++ lease ∷ [])) (lookup (same_name q) es)) → members_of fs ≡ begins name lease (members_of es)
 some_begins es fs name lease map = members_at es fs name (Some (without lease.addr (members_of es name) ++ lease ∷ [])) map

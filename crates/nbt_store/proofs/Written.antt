@@ -16,7 +16,7 @@ use Rattle.nbt_store.specs.declared.verb.Verb.TheVariants as verbs
 use Rattle.nbt_store.specs.Boot.{SpellsBoot}
 use Rattle.nbt_store.specs.Lines.{IsLine, IsHead, SpellsHead, HaveLines, IsClosed, whole_lines, version}
 use Rattle.nbt_store.specs.Records.{IsRecord, Says, says}
-use Rattle.nbt_store.specs.Words.{Then, SpellsHost, kind_word}
+use Rattle.nbt_store.specs.Words.{Then, SpellsHost, kind_word, none_further}
 use Rattle.nbt_store.specs.Writing.{AddsWord}
 use Rattle.nbt_store.proofs.WordLists.{one_word}
 use Rattle.std.proofs.lemmas.List.{map-append}
@@ -34,43 +34,64 @@ one One Others word rest a b p q = record { word = word; rest = rest; words_are 
 more_words : (old new word : List ℕ) (ws : List (List ℕ)) → AddsWord old new word → words_of old ≡ ws → words_of new ≡ ws ++ word ∷ []
 more_words old new word ws adds e = adds.words_are ∙ ap (λ (xs : List (List ℕ)). xs ++ word ∷ []) e
 
-pub began_says : (t0 t1 t2 t3 t4 n h e : List ℕ) (name : NameValue) (lease : Lease) → t0 ≡ codes "began" → SpellsName n name → AddsWord t0 t1 n → SpellsHost h lease.addr → AddsWord t1 t2 h → AddsWord t2 t3 (kind_word lease.kind)
-    → SpellsNumber e lease.end → AddsWord t3 t4 e → Says (words_of t4) (change.Began name lease) × IsLine t4
-began_says t0 t1 t2 t3 t4 n h e name lease is sn an sh ah ak se ae =
+pub began_says : (t0 t1 t2 t3 t4 t5 t6 n h e w : List ℕ) (name : NameValue) (lease : Lease) (at : ℕ) → t0 ≡ codes "began" → SpellsName n name → AddsWord t0 t1 n → SpellsHost h lease.addr → AddsWord t1 t2 h → AddsWord t2 t3 none_further → AddsWord t3 t4 (kind_word lease.kind)
+    → SpellsNumber e lease.end → AddsWord t4 t5 e → SpellsNumber w at → AddsWord t5 t6 w → Says (words_of t6) (change.Began name lease at) × IsLine t6
+began_says t0 t1 t2 t3 t4 t5 t6 n h e w name lease at is sn an sh ah af ak se ae sw aw =
     let k : List ℕ = kind_word lease.kind in
     let w0 : words_of t0 ≡ codes "began" ∷ [] = ap words_of is ∙ one_word (codes "began") (record { some = lit< tt; marks = (lit≤ tt, (lit≤ tt, (lit≤ tt, (lit≤ tt, (lit≤ tt, tt))))) }) in
-    let w4 : words_of t4 ≡ codes "began" ∷ n ∷ h ∷ k ∷ e ∷ [] = more_words t3 t4 e _ ae (more_words t2 t3 k _ ak (more_words t1 t2 h _ ah (more_words t0 t1 n _ an w0))) in (
-      subst (λ (ws : List (List ℕ)). Says ws (change.Began name lease)) (sym w4) (says verbs.Began (n ∷ h ∷ k ∷ e ∷ []) (change.Began name lease) (record {
-        values = (name, (lease.addr, (lease.kind, (lease.end, tt))));
-        spelled = one _ _ n _ name _ sn (one _ _ h _ lease.addr _ sh (one _ _ k _ lease.kind _ refl (one _ _ e _ lease.end tt se refl)));
+    let w6 : words_of t6 ≡ codes "began" ∷ n ∷ h ∷ none_further ∷ k ∷ e ∷ w ∷ [] = more_words t5 t6 w _ aw (more_words t4 t5 e _ ae (more_words t3 t4 k _ ak (more_words t2 t3 none_further _ af (more_words t1 t2 h _ ah (more_words t0 t1 n _ an w0))))) in (
+      subst (λ (ws : List (List ℕ)). Says ws (change.Began name lease at)) (sym w6) (says verbs.Began (n ∷ h ∷ none_further ∷ k ∷ e ∷ w ∷ []) (change.Began name lease at) (record {
+        values = (name, (lease.addr, (tt, (lease.kind, (lease.end, (at, tt))))));
+        spelled = one _ _ n _ name _ sn (one _ _ h _ lease.addr _ sh (one _ _ none_further _ tt _ refl (one _ _ k _ lease.kind _ refl (one _ _ e _ lease.end _ se (one _ _ w _ at tt sw refl)))));
         change_is = refl;
       })),
-      ae.line (ak.line (ah.line (an.line (subst IsLine (sym is) (lit≤ tt, (lit≤ tt, (lit≤ tt, (lit≤ tt, (lit≤ tt, tt))))))))),
+      aw.line (ae.line (ak.line (af.line (ah.line (an.line (subst IsLine (sym is) (lit≤ tt, (lit≤ tt, (lit≤ tt, (lit≤ tt, (lit≤ tt, tt))))))))))),
     )
 
-pub moved_says : (t0 t1 t2 t3 n h e : List ℕ) (name : NameValue) (addr end : ℕ) → t0 ≡ codes "moved" → SpellsName n name → AddsWord t0 t1 n → SpellsHost h addr → AddsWord t1 t2 h
-    → SpellsNumber e end → AddsWord t2 t3 e → Says (words_of t3) (change.Moved name addr end) × IsLine t3
-moved_says t0 t1 t2 t3 n h e name addr end is sn an sh ah se ae =
+pub moved_says : (t0 t1 t2 t3 t4 n h e w : List ℕ) (name : NameValue) (addr end at : ℕ) → t0 ≡ codes "moved" → SpellsName n name → AddsWord t0 t1 n → SpellsHost h addr → AddsWord t1 t2 h
+    → SpellsNumber e end → AddsWord t2 t3 e → SpellsNumber w at → AddsWord t3 t4 w → Says (words_of t4) (change.Moved name addr end at) × IsLine t4
+moved_says t0 t1 t2 t3 t4 n h e w name addr end at is sn an sh ah se ae sw aw =
     let w0 : words_of t0 ≡ codes "moved" ∷ [] = ap words_of is ∙ one_word (codes "moved") (record { some = lit< tt; marks = (lit≤ tt, (lit≤ tt, (lit≤ tt, (lit≤ tt, (lit≤ tt, tt))))) }) in
-    let w3 : words_of t3 ≡ codes "moved" ∷ n ∷ h ∷ e ∷ [] = more_words t2 t3 e _ ae (more_words t1 t2 h _ ah (more_words t0 t1 n _ an w0)) in (
-      subst (λ (ws : List (List ℕ)). Says ws (change.Moved name addr end)) (sym w3) (says verbs.Moved (n ∷ h ∷ e ∷ []) (change.Moved name addr end) (record {
-        values = (name, (addr, (end, tt)));
-        spelled = one _ _ n _ name _ sn (one _ _ h _ addr _ sh (one _ _ e _ end tt se refl));
+    let w4 : words_of t4 ≡ codes "moved" ∷ n ∷ h ∷ e ∷ w ∷ [] = more_words t3 t4 w _ aw (more_words t2 t3 e _ ae (more_words t1 t2 h _ ah (more_words t0 t1 n _ an w0))) in (
+      subst (λ (ws : List (List ℕ)). Says ws (change.Moved name addr end at)) (sym w4) (says verbs.Moved (n ∷ h ∷ e ∷ w ∷ []) (change.Moved name addr end at) (record {
+        values = (name, (addr, (end, (at, tt))));
+        spelled = one _ _ n _ name _ sn (one _ _ h _ addr _ sh (one _ _ e _ end _ se (one _ _ w _ at tt sw refl)));
         change_is = refl;
       })),
-      ae.line (ah.line (an.line (subst IsLine (sym is) (lit≤ tt, (lit≤ tt, (lit≤ tt, (lit≤ tt, (lit≤ tt, tt)))))))),
+      aw.line (ae.line (ah.line (an.line (subst IsLine (sym is) (lit≤ tt, (lit≤ tt, (lit≤ tt, (lit≤ tt, (lit≤ tt, tt))))))))),
     )
 
-pub released_says : (t0 t1 t2 n h : List ℕ) (name : NameValue) (addr : ℕ) → t0 ≡ codes "released" → SpellsName n name → AddsWord t0 t1 n → SpellsHost h addr → AddsWord t1 t2 h → Says (words_of t2) (change.Released name addr) × IsLine t2
-released_says t0 t1 t2 n h name addr is sn an sh ah =
+pub released_says : (t0 t1 t2 t3 n h w : List ℕ) (name : NameValue) (addr at : ℕ) → t0 ≡ codes "released" → SpellsName n name → AddsWord t0 t1 n → SpellsHost h addr → AddsWord t1 t2 h → SpellsNumber w at → AddsWord t2 t3 w
+    → Says (words_of t3) (change.Released name addr at) × IsLine t3
+released_says t0 t1 t2 t3 n h w name addr at is sn an sh ah sw aw =
     let w0 : words_of t0 ≡ codes "released" ∷ [] = ap words_of is ∙ one_word (codes "released") (record { some = lit< tt; marks = (lit≤ tt, (lit≤ tt, (lit≤ tt, (lit≤ tt, (lit≤ tt, (lit≤ tt, (lit≤ tt, (lit≤ tt, tt)))))))) }) in
-    let w2 : words_of t2 ≡ codes "released" ∷ n ∷ h ∷ [] = more_words t1 t2 h _ ah (more_words t0 t1 n _ an w0) in (
-      subst (λ (ws : List (List ℕ)). Says ws (change.Released name addr)) (sym w2) (says verbs.Released (n ∷ h ∷ []) (change.Released name addr) (record {
-        values = (name, (addr, tt));
-        spelled = one _ _ n _ name _ sn (one _ _ h _ addr tt sh refl);
+    let w3 : words_of t3 ≡ codes "released" ∷ n ∷ h ∷ w ∷ [] = more_words t2 t3 w _ aw (more_words t1 t2 h _ ah (more_words t0 t1 n _ an w0)) in (
+      subst (λ (ws : List (List ℕ)). Says ws (change.Released name addr at)) (sym w3) (says verbs.Released (n ∷ h ∷ w ∷ []) (change.Released name addr at) (record {
+        values = (name, (addr, (at, tt)));
+        spelled = one _ _ n _ name _ sn (one _ _ h _ addr _ sh (one _ _ w _ at tt sw refl));
         change_is = refl;
       })),
-      ah.line (an.line (subst IsLine (sym is) (lit≤ tt, (lit≤ tt, (lit≤ tt, (lit≤ tt, (lit≤ tt, (lit≤ tt, (lit≤ tt, (lit≤ tt, tt)))))))))),
+      aw.line (ah.line (an.line (subst IsLine (sym is) (lit≤ tt, (lit≤ tt, (lit≤ tt, (lit≤ tt, (lit≤ tt, (lit≤ tt, (lit≤ tt, (lit≤ tt, tt))))))))))),
+    )
+
+pub reached_says : (t0 t1 w : List ℕ) (at : ℕ) → t0 ≡ codes "reached" → SpellsNumber w at → AddsWord t0 t1 w → Says (words_of t1) (change.Reached at) × IsLine t1
+reached_says t0 t1 w at is sw aw =
+    let w0 : words_of t0 ≡ codes "reached" ∷ [] = ap words_of is ∙ one_word (codes "reached") (record { some = lit< tt; marks = (lit≤ tt, (lit≤ tt, (lit≤ tt, (lit≤ tt, (lit≤ tt, (lit≤ tt, (lit≤ tt, tt))))))) }) in
+    let w1 : words_of t1 ≡ codes "reached" ∷ w ∷ [] = more_words t0 t1 w _ aw w0 in (
+      subst (λ (ws : List (List ℕ)). Says ws (change.Reached at)) (sym w1) (says verbs.Reached (w ∷ []) (change.Reached at) (record { values = (at, tt); spelled = one _ _ w _ at tt sw refl; change_is = refl })),
+      aw.line (subst IsLine (sym is) (lit≤ tt, (lit≤ tt, (lit≤ tt, (lit≤ tt, (lit≤ tt, (lit≤ tt, (lit≤ tt, tt)))))))),
+    )
+
+pub looked_says : (t0 t1 t2 d w : List ℕ) (day at : ℕ) → t0 ≡ codes "looked" → SpellsNumber d day → AddsWord t0 t1 d → SpellsNumber w at → AddsWord t1 t2 w → Says (words_of t2) (change.Looked day at) × IsLine t2
+looked_says t0 t1 t2 d w day at is sd ad sw aw =
+    let w0 : words_of t0 ≡ codes "looked" ∷ [] = ap words_of is ∙ one_word (codes "looked") (record { some = lit< tt; marks = (lit≤ tt, (lit≤ tt, (lit≤ tt, (lit≤ tt, (lit≤ tt, (lit≤ tt, tt)))))) }) in
+    let w2 : words_of t2 ≡ codes "looked" ∷ d ∷ w ∷ [] = more_words t1 t2 w _ aw (more_words t0 t1 d _ ad w0) in (
+      subst (λ (ws : List (List ℕ)). Says ws (change.Looked day at)) (sym w2) (says verbs.Looked (d ∷ w ∷ []) (change.Looked day at) (record {
+        values = (day, (at, tt));
+        spelled = one _ _ d _ day _ sd (one _ _ w _ at tt sw refl);
+        change_is = refl;
+      })),
+      aw.line (ad.line (subst IsLine (sym is) (lit≤ tt, (lit≤ tt, (lit≤ tt, (lit≤ tt, (lit≤ tt, (lit≤ tt, tt)))))))),
     )
 
 pub head_says : (t1 t2 t3 t4 t5 t6 t7 t8 t9 a b c d e f g i j : List ℕ) (h : Header) (leases : ℕ) → SpellsNumber a h.life → words_of t1 ≡ a ∷ [] → IsLine t1 → SpellsNumber b h.longest → AddsWord t1 t2 b → SpellsNumber c h.rows → AddsWord t2 t3 c
@@ -100,11 +121,11 @@ front_lines octets line head is closed e = (
 )
 
 -- a lease more
-pub lease_written : (before after : List ℕ) (head : Head) (rows : Rows) (i : ℕ) (row : NameValue × Lease) (line : List ℕ) → HaveLines before head (begun_all (take i rows)) → IsClosed before → IsRecord line (change.Began row.0 row.1) → IsLine line
-    → after ≡ before ++ one_line line → take (i + 1) rows ≡ take i rows ++ row ∷ [] → HaveLines after head (begun_all (take (i + 1) rows)) × IsClosed after
-lease_written before after head rows i row line lines closed stated is e more = (
-  subst (λ (xs : List ℕ). HaveLines xs head (begun_all (take (i + 1) rows))) (sym e)
-      (subst (λ (cs : List Change). HaveLines (before ++ one_line line) head cs) (sym (ap begun_all more ∙ map-append (λ (r : NameValue × Lease). change.Began r.0 r.1) (take i rows) (row ∷ [])))
-      (one_more_line before line head (begun_all (take i rows)) (change.Began row.0 row.1) lines closed is stated)),
+pub lease_written : (before after : List ℕ) (head : Head) (at : ℕ) (rows : Rows) (i : ℕ) (row : NameValue × Lease) (line : List ℕ) → HaveLines before head (begun_all at (take i rows)) → IsClosed before → IsRecord line (change.Began row.0 row.1 at) → IsLine line
+    → after ≡ before ++ one_line line → take (i + 1) rows ≡ take i rows ++ row ∷ [] → HaveLines after head (begun_all at (take (i + 1) rows)) × IsClosed after
+lease_written before after head at rows i row line lines closed stated is e more = (
+  subst (λ (xs : List ℕ). HaveLines xs head (begun_all at (take (i + 1) rows))) (sym e)
+      (subst (λ (cs : List Change). HaveLines (before ++ one_line line) head cs) (sym (ap (begun_all at) more ∙ map-append (λ (r : NameValue × Lease). change.Began r.0 r.1 at) (take i rows) (row ∷ [])))
+      (one_more_line before line head (begun_all at (take i rows)) (change.Began row.0 row.1 at) lines closed is stated)),
   subst IsClosed (sym e) (closed_by before line),
 )

@@ -46,9 +46,9 @@ pub record Kept : Type 0 where
   pub changes : List Change
   pub durable : ℕ
 
--- what a file keeps that was just written with these leases
-abbrev pub kept_rows : Rows → Kept
-kept_rows rows = record { changes = begun_all rows; durable = length (begun_all rows) }
+-- what a file keeps that was just written with these leases, at this time
+abbrev pub kept_rows : (at : ℕ) → Rows → Kept
+kept_rows at rows = record { changes = begun_all at rows; durable = length (begun_all at rows) }
 
 -- What is kept after a call. An append that failed may have reached the disk or not, so its change is there and isn't durable;
 -- after a renewal that failed see MayLeaveAfter.
@@ -57,7 +57,7 @@ after_call (appended change) kept = record { changes = kept.changes ++ change �
 after_call (append_failed change) kept = record { changes = kept.changes ++ change ∷ []; durable = kept.durable }
 after_call synced kept = record { changes = kept.changes; durable = length kept.changes }
 after_call sync_failed kept = kept
-after_call (renewed header rows) kept = kept_rows rows
+after_call (renewed header rows) kept = kept_rows header.last rows
 after_call (renew_failed header rows) kept = kept
 
 abbrev pub after_calls : List StoreCall → Kept → Kept
@@ -68,4 +68,4 @@ after_calls (call ∷ calls) kept = after_calls calls (after_call call kept)
 -- durable at least; or the leases of the renewal that failed last.
 pub data MayLeaveAfter (kept : Kept) (calls : List StoreCall) (left : List Change) : Type 0 where
   first_changes : MayLeave (after_calls calls kept).changes (after_calls calls kept).durable left → MayLeaveAfter kept calls left
-  new_leases : (before : List StoreCall) (header : Header) (rows : Rows) → calls ≡ before ++ renew_failed header rows ∷ [] → left ≡ begun_all rows → MayLeaveAfter kept calls left
+  new_leases : (before : List StoreCall) (header : Header) (rows : Rows) → calls ≡ before ++ renew_failed header rows ∷ [] → left ≡ begun_all header.last rows → MayLeaveAfter kept calls left

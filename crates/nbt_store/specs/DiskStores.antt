@@ -16,8 +16,8 @@ use Rattle.nbt_store.specs.Records.{IsRecord}
 
 -- a whole file of these leases, which its second line counts
 pub record IsNewFile (text : List ℕ) (header : Header) (rows : Rows) : Type 0 where
-  pub file : IsFile text header (begun_all rows)
-  pub counted : HaveLines text (record { header = header; leases = length rows }) (begun_all rows)
+  pub file : IsFile text header (begun_all header.last rows)
+  pub counted : HaveLines text (record { header = header; leases = length rows }) (begun_all header.last rows)
   pub closed : IsClosed text
 
 -- a change's line, with its line feed

@@ -37,7 +37,7 @@ IsClosed octets = (front : List ℕ) × (octets ≡ front ++ newline)
 
 -- the first line, which another version of the form would have otherwise
 abbrev pub version : List ℕ
-version = codes "nbt leases, version 2"
+version = codes "nbt leases, version 3"
 
 -- The words of the second line: LIFE LONGEST ROWS BOOT AHEAD START LAST DAY LEASES.
 pub record SpellsHead (words : List (List ℕ)) (head : Head) : Type 0 where

@@ -8,15 +8,17 @@ use Rattle.nbt_text.specs.Lines.{words as words_of}
 use Rattle.nbt_store.specs.declared.change.Change.{Change}
 use Rattle.nbt_store.specs.declared.change.Change.TheVariants as change
 use Rattle.nbt_store.specs.declared.verb.Verb.{Verb}
-use Rattle.nbt_store.specs.declared.verb.Verb.TheVariants.{Began, Moved, Released}
+use Rattle.nbt_store.specs.declared.verb.Verb.TheVariants.{Began, Moved, Released, Reached, Looked}
 use Rattle.nbt_store.specs.Checksum.{sealed}
-use Rattle.nbt_store.specs.Words.{NoMore, Then, first, second, third, fourth, SpellsHost, SpellsKind}
+use Rattle.nbt_store.specs.Words.{NoMore, Then, first, second, third, fourth, fifth, sixth, SpellsHost, SpellsKind, SpellsNone}
 
 -- what a line begins with
 abbrev pub verb_word : Verb → List ℕ
 verb_word Began = codes "began"
 verb_word Moved = codes "moved"
 verb_word Released = codes "released"
+verb_word Reached = codes "reached"
+verb_word Looked = codes "looked"
 
 -- The words spell values, of which a change is made.
 pub record Makes {A : Type 0} (Spell : List (List ℕ) → A → Type 0) (make : A → Change) (words : List (List ℕ)) (c : Change) : Type 0 where
@@ -27,12 +29,14 @@ pub record Makes {A : Type 0} (Spell : List (List ℕ) → A → Type 0) (make :
 abbrev pub lease_of : (addr : ℕ) → Kind → (end : ℕ) → Lease
 lease_of addr kind end = record { addr = addr; kind = kind; end = end }
 
--- What the words after a verb say: `began NAME HOST KIND END`, `moved NAME HOST END`, `released NAME HOST`, with the end in
--- milliseconds.
+-- What the words after a verb say: `began NAME HOST FURTHER KIND END TIME`, `moved NAME HOST END TIME`, `released NAME HOST TIME`,
+-- `reached TIME`, `looked DAY TIME`, with times in milliseconds.
 abbrev pub SaysOf : Verb → List (List ℕ) → Change → Type 0
-SaysOf Began = Makes (Then SpellsName (Then SpellsHost (Then SpellsKind (Then SpellsNumber NoMore)))) (λ v. change.Began (first v) (lease_of (second v) (third v) (fourth v)))
-SaysOf Moved = Makes (Then SpellsName (Then SpellsHost (Then SpellsNumber NoMore))) (λ v. change.Moved (first v) (second v) (third v))
-SaysOf Released = Makes (Then SpellsName (Then SpellsHost NoMore)) (λ v. change.Released (first v) (second v))
+SaysOf Began = Makes (Then SpellsName (Then SpellsHost (Then SpellsNone (Then SpellsKind (Then SpellsNumber (Then SpellsNumber NoMore)))))) (λ v. change.Began (first v) (lease_of (second v) (fourth v) (fifth v)) (sixth v))
+SaysOf Moved = Makes (Then SpellsName (Then SpellsHost (Then SpellsNumber (Then SpellsNumber NoMore)))) (λ v. change.Moved (first v) (second v) (third v) (fourth v))
+SaysOf Released = Makes (Then SpellsName (Then SpellsHost (Then SpellsNumber NoMore))) (λ v. change.Released (first v) (second v) (third v))
+SaysOf Reached = Makes (Then SpellsNumber NoMore) (λ v. change.Reached (first v))
+SaysOf Looked = Makes (Then SpellsNumber (Then SpellsNumber NoMore)) (λ v. change.Looked (first v) (second v))
 
 -- What the words of a line say.
 pub data Says : List (List ℕ) → Change → Type 0 where

@@ -37,6 +37,19 @@ end_of ip = record { ip = ip; port = 137 }
 abbrev pub SpellsHost : List ℕ → (ip : ℕ) → Type 0
 SpellsHost word ip = SpellsAddress word (end_of ip)
 
+abbrev pub fifth : {A B C D E F : Type 0} → A × (B × (C × (D × (E × F)))) → E
+fifth values = values.1.1.1.1.0
+
+abbrev pub sixth : {A B C D E F G : Type 0} → A × (B × (C × (D × (E × (F × G))))) → F
+sixth values = values.1.1.1.1.1.0
+
+-- room for the further addresses of a lease, which has none
+abbrev pub none_further : List ℕ
+none_further = codes "-"
+
+abbrev pub SpellsNone : List ℕ → Unit {0} → Type 0
+SpellsNone word _ = word ≡ none_further
+
 abbrev pub kind_word : Kind → List ℕ
 kind_word Unique = codes "unique"
 kind_word Group = codes "group"

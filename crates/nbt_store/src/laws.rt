@@ -40,9 +40,9 @@ pub fn calls_of_a_store_ask_in_turn<D: Disk>()
 /// calls that went well since it was opened with these leases, and within one more call, or after it, whatever came of that.
 pub fn a_crash_of_the_disk_leaves_what_calls_may_leave()
     ensures between { (text : List ℕ) (h : Header) (rows : Rows) (calls : List StoreCall) (asked : List DiskCall) (left : List ℕ) → IsNewFile text h rows → AskInTurn calls asked → WentWell calls → CrashLeaves (folder_of text) asked left
-        → (now : Header) × (changes : List Change) × IsFile left now changes × MayLeaveAfter (kept_rows rows) calls changes }
+        → (now : Header) × (changes : List Change) × IsFile left now changes × MayLeaveAfter (kept_rows h.last rows) calls changes }
     ensures within { (text : List ℕ) (h : Header) (rows : Rows) (calls : List StoreCall) (last : StoreCall) (asked tail : List DiskCall) (left : List ℕ) → IsNewFile text h rows → AskInTurn calls asked → WentWell calls → Asks last tail
-        → CrashLeaves (folder_of text) (asked ++ tail) left → (now : Header) × (changes : List Change) × IsFile left now changes × MayLeaveAfter (kept_rows rows) (calls ++ last ∷ []) changes }
+        → CrashLeaves (folder_of text) (asked ++ tail) left → (now : Header) × (changes : List Change) × IsFile left now changes × MayLeaveAfter (kept_rows h.last rows) (calls ++ last ∷ []) changes }
 {}
 
 /// Octets that differ in one alone have different checksums.

@@ -22,7 +22,7 @@ use nbt_text::{NEWLINE, split_at_first};
 use std::alloc::{AllocError, Global};
 
 /// The first line (our profile).
-const VERSION: &[u8] = b"nbt leases, version 2";
+const VERSION: &[u8] = b"nbt leases, version 3";
 
 /// The number of the header's line.
 const HEAD_LINE: usize = 2;

@@ -9,7 +9,7 @@ ghost use Rattle.nbt_store.specs.Records.{IsRecord, Says, SaysOf};
 use crate::change::Change;
 use crate::sealing::unsealed;
 use crate::verb::{Verb, verb_of};
-use crate::word::{Host, Words};
+use crate::word::{Host, NoFurther, Words};
 use nbt_lease::Lease;
 use nbt_name::{Kind, Name};
 use nbt_text::words_of;
@@ -43,32 +43,56 @@ fn after_verb(verb: Verb, words: &[&[u8]]) -> Option<Change>
         Verb::Began => began_of(words),
         Verb::Moved => moved_of(words),
         Verb::Released => released_of(words),
+        Verb::Reached => reached_of(words),
+        Verb::Looked => looked_of(words),
     }
 }
 
-/// `NAME HOST KIND END`.
+/// `NAME HOST FURTHER KIND END TIME`.
 fn began_of(words: &[&[u8]]) -> Option<Change>
     ensures { (c : ChangeValue) → (result ≡ Some c) ↔ SaysOf verbs.Began (texts words.now) c }
 {
-    let values = <(Name, (Host, (Kind, (u64, ()))))>::read_all(words);
-    values.map(|(name, (addr, (kind, (end, ()))))| Change::Began {
+    let values = <(Name, (Host, (NoFurther, (Kind, (u64, (u64, ()))))))>::read_all(words);
+    values.map(|(name, (addr, ((), (kind, (end, (at, ()))))))| Change::Began {
         name,
         lease: Lease { addr, kind, end },
+        at,
     })
 }
 
-/// `NAME HOST END`.
+/// `NAME HOST END TIME`.
 fn moved_of(words: &[&[u8]]) -> Option<Change>
     ensures { (c : ChangeValue) → (result ≡ Some c) ↔ SaysOf verbs.Moved (texts words.now) c }
 {
-    let values = <(Name, (Host, (u64, ())))>::read_all(words);
-    values.map(|(name, (addr, (end, ())))| Change::Moved { name, addr, end })
+    let values = <(Name, (Host, (u64, (u64, ()))))>::read_all(words);
+    values.map(|(name, (addr, (end, (at, ()))))| Change::Moved {
+        name,
+        addr,
+        end,
+        at,
+    })
 }
 
-/// `NAME HOST`.
+/// `NAME HOST TIME`.
 fn released_of(words: &[&[u8]]) -> Option<Change>
     ensures { (c : ChangeValue) → (result ≡ Some c) ↔ SaysOf verbs.Released (texts words.now) c }
 {
-    let values = <(Name, (Host, ()))>::read_all(words);
-    values.map(|(name, (addr, ()))| Change::Released { name, addr })
+    let values = <(Name, (Host, (u64, ())))>::read_all(words);
+    values.map(|(name, (addr, (at, ())))| Change::Released { name, addr, at })
+}
+
+/// `TIME`.
+fn reached_of(words: &[&[u8]]) -> Option<Change>
+    ensures { (c : ChangeValue) → (result ≡ Some c) ↔ SaysOf verbs.Reached (texts words.now) c }
+{
+    let values = <(u64, ())>::read_all(words);
+    values.map(|(at, ())| Change::Reached { at })
+}
+
+/// `DAY TIME`.
+fn looked_of(words: &[&[u8]]) -> Option<Change>
+    ensures { (c : ChangeValue) → (result ≡ Some c) ↔ SaysOf verbs.Looked (texts words.now) c }
+{
+    let values = <(u64, (u64, ()))>::read_all(words);
+    values.map(|(day, (at, ()))| Change::Looked { day, at })
 }

@@ -5,8 +5,7 @@ ghost use Rattle.std.specs.List.{IsDistinct};
 ghost use Rattle.std.specs.Map.{keys_of, lookup};
 ghost use Rattle.nbt_name.specs.Wire.{NameValue, same_name};
 ghost use Rattle.nbt_lease.specs.Inner.Index.{members_of, rows_of};
-ghost use Rattle.nbt_store.specs.declared.change.Change.TheVariants as changes;
-ghost use Rattle.nbt_store.specs.Changes.{after, moved, with_end, without};
+ghost use Rattle.nbt_store.specs.Changes.{after, begins, goes, moved, moves, with_end, without};
 
 use crate::change::Change;
 use indexmap::IndexMap;
@@ -121,12 +120,18 @@ pub(crate) fn apply(
     ensures names { IsDistinct same_name (keys_of members.new.entries) }
 {
     match change {
-        Change::Began { name, lease } => begin(alloc, members, name, lease),
-        Change::Moved { name, addr, end } => move_end(alloc, members, &name, addr, end),
-        Change::Released { name, addr } => {
+        Change::Began { name, lease, .. } => begin(alloc, members, name, lease),
+        Change::Moved {
+            name,
+            addr,
+            end,
+            ..
+        } => move_end(alloc, members, &name, addr, end),
+        Change::Released { name, addr, .. } => {
             release(members, &name, addr);
             Ok(())
         }
+        Change::Reached { .. } | Change::Looked { .. } => Ok(()),
     }
 }
 
@@ -138,7 +143,7 @@ fn begin(
     lease: Lease,
 ) -> Result<(), AllocError>
     requires names { IsDistinct same_name (keys_of members.old.entries) }
-    ensures members { OnOk result (members_of members.new.entries ≡ after (changes.Began name lease) (members_of members.old.entries)) }
+    ensures members { OnOk result (members_of members.new.entries ≡ begins name lease (members_of members.old.entries)) }
     ensures names { IsDistinct same_name (keys_of members.new.entries) }
 {
     match begin_in(members, &name, lease) {
@@ -190,7 +195,7 @@ fn move_end(
     end: u64,
 ) -> Result<(), AllocError>
     requires names { IsDistinct same_name (keys_of members.old.entries) }
-    ensures members { OnOk result (members_of members.new.entries ≡ after (changes.Moved name.now addr end) (members_of members.old.entries)) }
+    ensures members { OnOk result (members_of members.new.entries ≡ moves name.now addr end (members_of members.old.entries)) }
     ensures names { IsDistinct same_name (keys_of members.new.entries) }
 {
     match move_in(alloc, members, name, addr, end) {
@@ -220,7 +225,7 @@ fn move_in(
 /// Ends the lease of a name and an address, if there is one.
 fn release(members: &mut IndexMap<Name, Group>, name: &Name, addr: u32)
     requires names { IsDistinct same_name (keys_of members.old.entries) }
-    ensures members { members_of members.new.entries ≡ after (changes.Released name.now addr) (members_of members.old.entries) }
+    ensures members { members_of members.new.entries ≡ goes name.now addr (members_of members.old.entries) }
     ensures names { IsDistinct same_name (keys_of members.new.entries) }
 {
     match release_in(members, name, addr) {

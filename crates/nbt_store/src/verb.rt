@@ -13,6 +13,10 @@ pub(crate) enum Verb {
     Moved,
     /// `released`: a lease was released.
     Released,
+    /// `reached`: the server's clock came to a time.
+    Reached,
+    /// `looked`: the same, with the time of day.
+    Looked,
 }
 
 /// The verb that a word is.
@@ -23,6 +27,8 @@ pub(crate) fn verb_of(word: &[u8]) -> Option<Verb>
         b"began" => Some(Verb::Began),
         b"moved" => Some(Verb::Moved),
         b"released" => Some(Verb::Released),
+        b"reached" => Some(Verb::Reached),
+        b"looked" => Some(Verb::Looked),
         _ => None,
     }
 }

@@ -92,6 +92,24 @@ impl Word for Host {
     }
 }
 
+/// Room for the further addresses of a lease, which has none: `-`.
+pub(crate) struct NoFurther;
+
+impl Word for NoFurther {
+    ghost use Rattle.nbt_store.specs.Words.{SpellsNone};
+
+    type Value = ();
+
+    ghost spells = { SpellsNone };
+
+    fn read(word: &[u8]) -> Option<()> {
+        match word {
+            b"-" => Some(()),
+            _ => None,
+        }
+    }
+}
+
 /// A kind, `unique` or `group`.
 impl Word for Kind {
     ghost use Rattle.nbt_store.specs.Words.{SpellsKind};

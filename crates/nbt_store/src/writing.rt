@@ -12,7 +12,7 @@ ghost use Rattle.nbt_store.specs.Checksum.{sealed};
 ghost use Rattle.nbt_store.specs.Lines.{HaveLines, IsClosed, IsFile, IsHead, IsLine, SpellsHead, version};
 ghost use Rattle.nbt_store.specs.Changes.{begun_all};
 ghost use Rattle.nbt_store.specs.Records.{IsRecord, Says};
-ghost use Rattle.nbt_store.specs.Words.{SpellsHost, kind_word};
+ghost use Rattle.nbt_store.specs.Words.{SpellsHost, kind_word, none_further};
 ghost use Rattle.nbt_store.specs.Writing.{AddsWord, IsWord};
 
 use crate::boot::Boot;
@@ -35,13 +35,18 @@ pub fn write_change(alloc: Global, change: &Change, out: &mut String) -> Result<
     Ok(())
 }
 
-/// Appends the line of a lease that began, with its line feed.
-fn write_row(alloc: Global, row: &(Name, Lease), out: &mut String) -> Result<(), AllocError>
-    ensures { OnOk result ((line : List ℕ) × IsRecord line (changes.Began row.now.0 row.now.1) × IsLine line × (string_bytes out.new ≡ string_bytes out.old ++ one_line line)) }
+/// Appends the line of a lease that began at this time, with its line feed.
+fn write_row(
+    alloc: Global,
+    row: &(Name, Lease),
+    at: u64,
+    out: &mut String,
+) -> Result<(), AllocError>
+    ensures { OnOk result ((line : List ℕ) × IsRecord line (changes.Began row.now.0 row.now.1 at) × IsLine line × (string_bytes out.new ≡ string_bytes out.old ++ one_line line)) }
 {
     let (name, lease) = row;
     let mut body = String::new(alloc);
-    write_began(name, *lease, &mut body)?;
+    write_began(name, *lease, at, &mut body)?;
     write_sealed(&body, out)?;
     Ok(())
 }
@@ -55,13 +60,13 @@ pub fn write_file(
     out: &mut String,
 ) -> Result<(), AllocError>
     requires { string_bytes out.old ≡ [] }
-    ensures file { OnOk result (IsFile (string_bytes out.new) header.now (begun_all rows.now)) }
-    ensures counted { OnOk result (HaveLines (string_bytes out.new) (record { header = header.now; leases = length rows.now }) (begun_all rows.now)) }
+    ensures file { OnOk result (IsFile (string_bytes out.new) header.now (begun_all header.now.last rows.now)) }
+    ensures counted { OnOk result (HaveLines (string_bytes out.new) (record { header = header.now; leases = length rows.now }) (begun_all header.now.last rows.now)) }
     ensures closed { OnOk result (IsClosed (string_bytes out.new)) }
 {
     write_front(alloc, header, rows.len() as u64, out)?;
     for row in rows {
-        write_row(alloc, row, out)?;
+        write_row(alloc, row, header.last, out)?;
     }
     Ok(())
 }
@@ -77,7 +82,7 @@ fn write_front(
     ensures lines { OnOk result (HaveLines (string_bytes out.new) (record { header = header.now; leases = leases }) []) }
     ensures closed { OnOk result (IsClosed (string_bytes out.new)) }
 {
-    out.push_str("nbt leases, version 2")?;
+    out.push_str("nbt leases, version 3")?;
     end_line(out)?;
     write_head(alloc, header, leases, out)?;
     Ok(())
@@ -115,48 +120,88 @@ fn write_words(change: &Change, out: &mut String) -> Result<(), AllocError>
     ensures line { OnOk result (IsLine (string_bytes out.new)) }
 {
     match change {
-        Change::Began { name, lease } => write_began(name, *lease, out),
-        Change::Moved { name, addr, end } => write_moved(name, *addr, *end, out),
-        Change::Released { name, addr } => write_released(name, *addr, out),
+        Change::Began { name, lease, at } => write_began(name, *lease, *at, out),
+        Change::Moved {
+            name,
+            addr,
+            end,
+            at,
+        } => write_moved(name, *addr, *end, *at, out),
+        Change::Released { name, addr, at } => write_released(name, *addr, *at, out),
+        Change::Reached { at } => write_reached(*at, out),
+        Change::Looked { day, at } => write_looked(*day, *at, out),
     }
 }
 
-/// Puts `began NAME HOST KIND END`.
-fn write_began(name: &Name, lease: Lease, out: &mut String) -> Result<(), AllocError>
+/// Puts `began NAME HOST FURTHER KIND END TIME`.
+fn write_began(name: &Name, lease: Lease, at: u64, out: &mut String) -> Result<(), AllocError>
     requires { string_bytes out.old ≡ [] }
-    ensures says { OnOk result (Says (words_spoken (string_bytes out.new)) (changes.Began name.now lease)) }
+    ensures says { OnOk result (Says (words_spoken (string_bytes out.new)) (changes.Began name.now lease at)) }
     ensures line { OnOk result (IsLine (string_bytes out.new)) }
 {
     out.push_str("began")?;
     add_name(name, out)?;
     add_host(lease.addr, out)?;
+    add_no_further(out)?;
     add_kind(lease.kind, out)?;
     add_number(lease.end, out)?;
+    add_number(at, out)?;
     Ok(())
 }
 
-/// Puts `moved NAME HOST END`.
-fn write_moved(name: &Name, addr: u32, end: u64, out: &mut String) -> Result<(), AllocError>
+/// Puts `moved NAME HOST END TIME`.
+fn write_moved(
+    name: &Name,
+    addr: u32,
+    end: u64,
+    at: u64,
+    out: &mut String,
+) -> Result<(), AllocError>
     requires { string_bytes out.old ≡ [] }
-    ensures says { OnOk result (Says (words_spoken (string_bytes out.new)) (changes.Moved name.now addr end)) }
+    ensures says { OnOk result (Says (words_spoken (string_bytes out.new)) (changes.Moved name.now addr end at)) }
     ensures line { OnOk result (IsLine (string_bytes out.new)) }
 {
     out.push_str("moved")?;
     add_name(name, out)?;
     add_host(addr, out)?;
     add_number(end, out)?;
+    add_number(at, out)?;
     Ok(())
 }
 
-/// Puts `released NAME HOST`.
-fn write_released(name: &Name, addr: u32, out: &mut String) -> Result<(), AllocError>
+/// Puts `released NAME HOST TIME`.
+fn write_released(name: &Name, addr: u32, at: u64, out: &mut String) -> Result<(), AllocError>
     requires { string_bytes out.old ≡ [] }
-    ensures says { OnOk result (Says (words_spoken (string_bytes out.new)) (changes.Released name.now addr)) }
+    ensures says { OnOk result (Says (words_spoken (string_bytes out.new)) (changes.Released name.now addr at)) }
     ensures line { OnOk result (IsLine (string_bytes out.new)) }
 {
     out.push_str("released")?;
     add_name(name, out)?;
     add_host(addr, out)?;
+    add_number(at, out)?;
+    Ok(())
+}
+
+/// Puts `reached TIME`.
+fn write_reached(at: u64, out: &mut String) -> Result<(), AllocError>
+    requires { string_bytes out.old ≡ [] }
+    ensures says { OnOk result (Says (words_spoken (string_bytes out.new)) (changes.Reached at)) }
+    ensures line { OnOk result (IsLine (string_bytes out.new)) }
+{
+    out.push_str("reached")?;
+    add_number(at, out)?;
+    Ok(())
+}
+
+/// Puts `looked DAY TIME`.
+fn write_looked(day: u64, at: u64, out: &mut String) -> Result<(), AllocError>
+    requires { string_bytes out.old ≡ [] }
+    ensures says { OnOk result (Says (words_spoken (string_bytes out.new)) (changes.Looked day at)) }
+    ensures line { OnOk result (IsLine (string_bytes out.new)) }
+{
+    out.push_str("looked")?;
+    add_number(day, out)?;
+    add_number(at, out)?;
     Ok(())
 }
 
@@ -215,6 +260,13 @@ fn add_host(addr: u32, out: &mut String) -> Result<(), AllocError>
     out.push_str(" ")?;
     write_address(end, out)?;
     Ok(())
+}
+
+/// Appends a space, and that a lease has no further addresses.
+fn add_no_further(out: &mut String) -> Result<(), AllocError>
+    ensures { OnOk result (AddsWord (string_bytes out.old) (string_bytes out.new) none_further) }
+{
+    push_word("-", out)
 }
 
 /// Appends a space and a kind.

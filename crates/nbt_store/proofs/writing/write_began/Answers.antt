@@ -8,16 +8,20 @@ pub returns-clause-says : goal.returns-clause-says
 returns-clause-says c =
     let n = c.in_ok-add_name.ensures in
     let h = c.in_ok-add_host.ensures in
+    let f = c.in_ok-add_no_further.ensures in
     let k = c.in_ok-add_kind.ensures in
     let e = c.in_ok-add_number.ensures in
-    (began_says (string_bytes c.push_str.new.self) (string_bytes c.add_name.new.out) (string_bytes c.add_host.new.out) (string_bytes c.add_kind.new.out) (string_bytes c.add_number.new.out) n.0 h.0 e.0 c.args.name.now c.args.lease
-    (c.in_ok-push_str.ensures.bytes ∙ ap (λ (xs : List ℕ). xs ++ codes "began") c.requires) n.1 n.2 h.1 h.2 k e.1 e.2).0
+    let w = c.in_ok-add_number-2.ensures in
+    (began_says (string_bytes c.push_str.new.self) (string_bytes c.add_name.new.out) (string_bytes c.add_host.new.out) (string_bytes c.add_no_further.new.out) (string_bytes c.add_kind.new.out) (string_bytes c.add_number.new.out) (string_bytes c.add_number-2.new.out) n.0 h.0 e.0 w.0 c.args.name.now c.args.lease c.args.at
+    (c.in_ok-push_str.ensures.bytes ∙ ap (λ (xs : List ℕ). xs ++ codes "began") c.requires) n.1 n.2 h.1 h.2 f k e.1 e.2 w.1 w.2).0
 
 pub returns-clause-line : goal.returns-clause-line
 returns-clause-line c =
     let n = c.in_ok-add_name.ensures in
     let h = c.in_ok-add_host.ensures in
+    let f = c.in_ok-add_no_further.ensures in
     let k = c.in_ok-add_kind.ensures in
     let e = c.in_ok-add_number.ensures in
-    (began_says (string_bytes c.push_str.new.self) (string_bytes c.add_name.new.out) (string_bytes c.add_host.new.out) (string_bytes c.add_kind.new.out) (string_bytes c.add_number.new.out) n.0 h.0 e.0 c.args.name.now c.args.lease
-    (c.in_ok-push_str.ensures.bytes ∙ ap (λ (xs : List ℕ). xs ++ codes "began") c.requires) n.1 n.2 h.1 h.2 k e.1 e.2).1
+    let w = c.in_ok-add_number-2.ensures in
+    (began_says (string_bytes c.push_str.new.self) (string_bytes c.add_name.new.out) (string_bytes c.add_host.new.out) (string_bytes c.add_no_further.new.out) (string_bytes c.add_kind.new.out) (string_bytes c.add_number.new.out) (string_bytes c.add_number-2.new.out) n.0 h.0 e.0 w.0 c.args.name.now c.args.lease c.args.at
+    (c.in_ok-push_str.ensures.bytes ∙ ap (λ (xs : List ℕ). xs ++ codes "began") c.requires) n.1 n.2 h.1 h.2 f k e.1 e.2 w.1 w.2).1

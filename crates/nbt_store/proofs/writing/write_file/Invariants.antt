@@ -5,4 +5,4 @@ use Rattle.nbt_store.specs.Lines.{HaveLines, IsClosed}
 use Rattle.nbt_store.proofs.writing.write_file.Given as goal
 
 abbrev pub invariant-loop-row : goal.invariant-loop-row
-invariant-loop-row l = HaveLines (string_bytes l.out) (record { header = l.header; leases = length l.rows }) (begun_all (take l.row-index l.rows)) × IsClosed (string_bytes l.out)
+invariant-loop-row l = HaveLines (string_bytes l.out) (record { header = l.header; leases = length l.rows }) (begun_all l.header.last (take l.row-index l.rows)) × IsClosed (string_bytes l.out)

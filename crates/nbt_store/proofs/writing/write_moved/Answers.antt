@@ -9,13 +9,15 @@ returns-clause-says c =
     let n = c.in_ok-add_name.ensures in
     let h = c.in_ok-add_host.ensures in
     let e = c.in_ok-add_number.ensures in
-    (moved_says (string_bytes c.push_str.new.self) (string_bytes c.add_name.new.out) (string_bytes c.add_host.new.out) (string_bytes c.add_number.new.out) n.0 h.0 e.0 c.args.name.now c.args.addr c.args.end
-    (c.in_ok-push_str.ensures.bytes ∙ ap (λ (xs : List ℕ). xs ++ codes "moved") c.requires) n.1 n.2 h.1 h.2 e.1 e.2).0
+    let w = c.in_ok-add_number-2.ensures in
+    (moved_says (string_bytes c.push_str.new.self) (string_bytes c.add_name.new.out) (string_bytes c.add_host.new.out) (string_bytes c.add_number.new.out) (string_bytes c.add_number-2.new.out) n.0 h.0 e.0 w.0 c.args.name.now c.args.addr c.args.end c.args.at
+    (c.in_ok-push_str.ensures.bytes ∙ ap (λ (xs : List ℕ). xs ++ codes "moved") c.requires) n.1 n.2 h.1 h.2 e.1 e.2 w.1 w.2).0
 
 pub returns-clause-line : goal.returns-clause-line
 returns-clause-line c =
     let n = c.in_ok-add_name.ensures in
     let h = c.in_ok-add_host.ensures in
     let e = c.in_ok-add_number.ensures in
-    (moved_says (string_bytes c.push_str.new.self) (string_bytes c.add_name.new.out) (string_bytes c.add_host.new.out) (string_bytes c.add_number.new.out) n.0 h.0 e.0 c.args.name.now c.args.addr c.args.end
-    (c.in_ok-push_str.ensures.bytes ∙ ap (λ (xs : List ℕ). xs ++ codes "moved") c.requires) n.1 n.2 h.1 h.2 e.1 e.2).1
+    let w = c.in_ok-add_number-2.ensures in
+    (moved_says (string_bytes c.push_str.new.self) (string_bytes c.add_name.new.out) (string_bytes c.add_host.new.out) (string_bytes c.add_number.new.out) (string_bytes c.add_number-2.new.out) n.0 h.0 e.0 w.0 c.args.name.now c.args.addr c.args.end c.args.at
+    (c.in_ok-push_str.ensures.bytes ∙ ap (λ (xs : List ℕ). xs ++ codes "moved") c.requires) n.1 n.2 h.1 h.2 e.1 e.2 w.1 w.2).1
