@@ -7,8 +7,10 @@ use Rattle.nbt_text.specs.Number.{SpellsNumber}
 use Rattle.nbt_store.specs.declared.header.Head.{Head}
 use Rattle.nbt_store.specs.Boot.{SpellsBoot}
 use Rattle.nbt_text.specs.Lines.{words as words_of}
-use Rattle.nbt_store.specs.Checksum.{sealed}
-use Rattle.nbt_store.specs.Lines.{IsHead, SpellsHead}
+use Rattle.nbt_store.specs.declared.form.Form.{Form}
+use Rattle.nbt_store.specs.Checksum.{checksum, sealed}
+use Rattle.nbt_store.specs.Forms.{chained}
+use Rattle.nbt_store.specs.Lines.{IsHead, IsNone, SpellsHead}
 use Rattle.nbt_store.proofs.Seals.{same_body}
 use Rattle.nbt_store.specs.Words.{Then, NoMore}
 use Rattle.nbt_store.specs.Records.{IsRecord, Makes, Says, says, SaysOf, verb_word}
@@ -31,23 +33,23 @@ made Spell make ws (Some x) (Some j) Gives i reads one given = (
   or_else c (Some k) = k
 made Spell make ws (Some x) None Gives i reads one given = absurd one
 
-says_in : (ws : List (List ℕ)) (i : Change) → Says ws i → (v : Verb) × (rest : List (List ℕ)) × (ws ≡ verb_word v ∷ rest) × SaysOf v rest i
-says_in _ _ (says v rest i p) = (v, rest, refl, p)
+says_in : (form : Form) (ws : List (List ℕ)) (i : Change) → Says form ws i → (v : Verb) × (rest : List (List ℕ)) × (ws ≡ verb_word v ∷ rest) × SaysOf form v rest i
+says_in form _ _ (says v rest i p) = (v, rest, refl, p)
 
-abbrev pub IsSaid : List (List ℕ) → Option Change → Type 0
-IsSaid ws found = MatchOption found ((i : Change) → ¬ Says ws i) (Says ws)
+abbrev pub IsSaid : Form → List (List ℕ) → Option Change → Type 0
+IsSaid form ws found = MatchOption found ((i : Change) → ¬ Says form ws i) (Says form ws)
 
-pub by_verb : (ws rest : List (List ℕ)) (word : List ℕ) (found_verb : Option Verb) (v : Verb) (found : Option Change) → ws ≡ word ∷ rest → ((x : Verb) → (found_verb ≡ Some x) ↔ (word ≡ verb_word x)) → found_verb ≡ Some v
-    → Reads Change found (SaysOf v rest) → IsSaid ws found
-by_verb ws rest word found_verb v None whole tells there reads = λ i s.
-    let p = says_in ws i s in
+pub by_verb : (form : Form) (ws rest : List (List ℕ)) (word : List ℕ) (found_verb : Option Verb) (v : Verb) (found : Option Change) → ws ≡ word ∷ rest → ((x : Verb) → (found_verb ≡ Some x) ↔ (word ≡ verb_word x)) → found_verb ≡ Some v
+    → Reads Change found (SaysOf form v rest) → IsSaid form ws found
+by_verb form ws rest word found_verb v None whole tells there reads = λ i s.
+    let p = says_in form ws i s in
     let same_word : word ≡ verb_word p.0 = cc in
     let other = (tells p.0).1 same_word in
     let same : p.0 ≡ v = cc in
     let same_rest : p.1 ≡ rest = cc in
-    let here = (reads i).1 (subst (λ (x : Verb). SaysOf x rest i) same (subst (λ (x : List (List ℕ)). SaysOf p.0 x i) same_rest p.3)) in
+    let here = (reads i).1 (subst (λ (x : Verb). SaysOf form x rest i) same (subst (λ (x : List (List ℕ)). SaysOf form p.0 x i) same_rest p.3)) in
     absurd cc
-by_verb ws rest word found_verb v (Some i) whole tells there reads = rw (whole, (tells v).0 there) (says v rest i ((reads i).0 refl))
+by_verb form ws rest word found_verb v (Some i) whole tells there reads = rw (whole, (tells v).0 there) (says v rest i ((reads i).0 refl))
 
 -- ---- heads
 
@@ -88,12 +90,18 @@ head_made ws (Some x) (Some j) Gives h reads one given = (
   or_head c (Some k) = k
 head_made ws (Some x) None Gives h reads one given = absurd one
 
-pub head_read : (line body : List ℕ) (ws : List (List ℕ)) (found : Option Head) (h : Head) → line ≡ sealed body → ws ≡ words_of body → Reads Head found (SpellsHead ws) → (found ≡ Some h) ↔ IsHead line h
-head_read line body ws found h e are reads = (
-  λ some. record { body = body; line_is = e; words_say = subst (λ (xs : List (List ℕ)). SpellsHead xs h) are ((reads h).0 some) },
-  λ is. (reads h).1 (subst (λ (xs : List (List ℕ)). SpellsHead xs h) (sym (are ∙ ap words_of (same_body line body is.body e is.line_is))) is.words_say),
-)
+-- ---- whole lines
 
-pub record_is : (line : List ℕ) (o : Option Change) (c : Change) → o ≡ Some c → MatchOption o ((x : Change) → ¬ IsRecord line x) (IsRecord line) → IsRecord line c
-record_is line None c e h = absurd cc
-record_is line (Some x) c e h = let same : x ≡ c = cc in subst (IsRecord line) same h
+pub head_none : (line body : List ℕ) (ws : List (List ℕ)) (found : Option Head) → line ≡ sealed 0 body → ws ≡ words_of body → Reads Head found (SpellsHead ws) → found ≡ None → (head : Head) (sum : ℕ) → ¬ IsHead line head sum
+head_none line body ws found e are reads none head sum is =
+    let there = (reads head).1 (subst (λ (xs : List (List ℕ)). SpellsHead xs head) (sym (are ∙ ap words_of (same_body 0 line body is.body e is.line_is))) is.words_say) in
+    absurd cc
+
+pub head_found : (line body : List ℕ) (ws : List (List ℕ)) (found : Option Head) (head : Head) (sum : ℕ) → line ≡ sealed 0 body → sum ≡ checksum 0 body → ws ≡ words_of body → Reads Head found (SpellsHead ws) → found ≡ Some head → IsHead line head sum
+head_found line body ws found head sum e next are reads some = record { body = body; line_is = e; words_say = subst (λ (xs : List (List ℕ)). SpellsHead xs head) are ((reads head).0 some); next_is = next }
+
+pub record_none : (form : Form) (sum : ℕ) (line body : List ℕ) (ws : List (List ℕ)) → line ≡ sealed (chained form sum) body → ws ≡ words_of body → ((c : Change) → ¬ Says form ws c) → IsNone form sum line
+record_none form sum line body ws e are none = λ c next is. none c (subst (λ (xs : List (List ℕ)). Says form xs c) (sym (are ∙ ap words_of (same_body (chained form sum) line body is.body e is.line_is))) is.words_say)
+
+pub record_found : (form : Form) (sum : ℕ) (line body : List ℕ) (ws : List (List ℕ)) (c : Change) (next : ℕ) → line ≡ sealed (chained form sum) body → next ≡ checksum (chained form sum) body → ws ≡ words_of body → Says form ws c → IsRecord form sum line c next
+record_found form sum line body ws c next e next_is are say = record { body = body; line_is = e; words_say = subst (λ (xs : List (List ℕ)). Says form xs c) are say; next_is = next_is }

@@ -1,5 +1,5 @@
 -- What changes make of the leases of each name, and what a crash leaves of them (our profile).
-use Rattle.std.specs.Prelude.{◌≡◌, ℕ, ◌≤◌, max, not, nat_eq, if◌then◌else◌, List, [], ◌∷◌, ◌++◌, length, map, filter, take}
+use Rattle.std.specs.Prelude.{◌≡◌, ℕ, ◌≤◌, max, not, nat_eq, if◌then◌else◌, List, [], ◌∷◌, ◌++◌, length, map, filter, take, Any, ⊤}
 use Rattle.nbt_name.specs.Wire.{NameValue}
 use Rattle.nbt_lease.specs.declared.lease.Lease.{Lease}
 use Rattle.nbt_lease.specs.Lease.{Leases, Rows, at_name}
@@ -45,6 +45,12 @@ after_all (change ∷ changes) leases = after_all changes (after change leases)
 -- the changes by which leases began, all at this time
 abbrev pub begun_all : (at : ℕ) → Rows → List Change
 begun_all at rows = map (λ row. Began row.0 row.1 at) rows
+
+-- A change that moves or releases a lease has one.
+abbrev pub Stands : Change → Leases → Type 0
+Stands (Moved name addr end at) leases = Any (λ lease. lease.addr ≡ addr) (leases name)
+Stands (Released name addr at) leases = Any (λ lease. lease.addr ≡ addr) (leases name)
+Stands change leases = ⊤
 
 -- when a change was made, by the server's clock
 abbrev pub at_of : Change → ℕ

@@ -11,13 +11,14 @@ prime = 4294967291
 abbrev pub with_octet : ℕ → ℕ → ℕ
 with_octet sum octet = (sum * 257 + octet + 1) % prime
 
-abbrev pub checksum : List ℕ → ℕ
-checksum octets = fold with_octet 0 octets
+-- The checksum of octets goes on from that of what stood before them.
+abbrev pub checksum : (before : ℕ) → List ℕ → ℕ
+checksum before octets = fold with_octet before octets
 
--- what stands behind a line's words: a space, and the eight digits of the checksum
-abbrev pub seal : List ℕ → List ℕ
-seal body = 0x20 ∷ encode_lower (to_be_bytes w32 (checksum body))
+-- what stands behind a line's words: a space, and the eight digits of their checksum
+abbrev pub seal_digits : (sum : ℕ) → List ℕ
+seal_digits sum = 0x20 ∷ encode_lower (to_be_bytes w32 sum)
 
 -- a line is its words, closed by their checksum
-abbrev pub sealed : List ℕ → List ℕ
-sealed body = body ++ seal body
+abbrev pub sealed : (before : ℕ) → List ℕ → List ℕ
+sealed before body = body ++ seal_digits (checksum before body)

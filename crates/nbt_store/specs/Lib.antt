@@ -2,6 +2,7 @@ pub mod Boot
 pub mod Changes
 pub mod Checksum
 pub mod Words
+pub mod Forms
 pub mod Records
 pub mod Lines
 pub mod Loading
@@ -14,3 +15,4 @@ pub mod Reading
 pub mod Writing
 pub mod Headers
 pub mod Numbers
+pub mod Times

@@ -14,5 +14,7 @@ abbrev pub silence_number : Silence → ℕ
 silence_number reasons.OtherLife = 1
 silence_number reasons.OtherLongest = 2
 silence_number reasons.OtherRows = 3
-silence_number reasons.OtherBoot = 4
-silence_number reasons.ClockBack = 5
+silence_number reasons.BadTimes = 4
+silence_number reasons.OtherBoot = 5
+silence_number reasons.Apart = 6
+silence_number reasons.Older = 7

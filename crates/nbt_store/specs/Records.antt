@@ -9,7 +9,10 @@ use Rattle.nbt_store.specs.declared.change.Change.{Change}
 use Rattle.nbt_store.specs.declared.change.Change.TheVariants as change
 use Rattle.nbt_store.specs.declared.verb.Verb.{Verb}
 use Rattle.nbt_store.specs.declared.verb.Verb.TheVariants.{Began, Moved, Released, Reached, Looked}
-use Rattle.nbt_store.specs.Checksum.{sealed}
+use Rattle.nbt_store.specs.declared.form.Form.{Form}
+use Rattle.nbt_store.specs.declared.form.Form.TheVariants.{Two, Three}
+use Rattle.nbt_store.specs.Checksum.{checksum, sealed}
+use Rattle.nbt_store.specs.Forms.{chained}
 use Rattle.nbt_store.specs.Words.{NoMore, Then, first, second, third, fourth, fifth, sixth, SpellsHost, SpellsKind, SpellsNone}
 
 -- what a line begins with
@@ -30,20 +33,26 @@ abbrev pub lease_of : (addr : ℕ) → Kind → (end : ℕ) → Lease
 lease_of addr kind end = record { addr = addr; kind = kind; end = end }
 
 -- What the words after a verb say: `began NAME HOST FURTHER KIND END TIME`, `moved NAME HOST END TIME`, `released NAME HOST TIME`,
--- `reached TIME`, `looked DAY TIME`, with times in milliseconds.
-abbrev pub SaysOf : Verb → List (List ℕ) → Change → Type 0
-SaysOf Began = Makes (Then SpellsName (Then SpellsHost (Then SpellsNone (Then SpellsKind (Then SpellsNumber (Then SpellsNumber NoMore)))))) (λ v. change.Began (first v) (lease_of (second v) (fourth v) (fifth v)) (sixth v))
-SaysOf Moved = Makes (Then SpellsName (Then SpellsHost (Then SpellsNumber (Then SpellsNumber NoMore)))) (λ v. change.Moved (first v) (second v) (third v) (fourth v))
-SaysOf Released = Makes (Then SpellsName (Then SpellsHost (Then SpellsNumber NoMore))) (λ v. change.Released (first v) (second v) (third v))
-SaysOf Reached = Makes (Then SpellsNumber NoMore) (λ v. change.Reached (first v))
-SaysOf Looked = Makes (Then SpellsNumber (Then SpellsNumber NoMore)) (λ v. change.Looked (first v) (second v))
+-- `reached TIME`, `looked DAY TIME`, with times in milliseconds. In the older form three of them stand, without FURTHER and TIME.
+abbrev pub SaysOf : Form → Verb → List (List ℕ) → Change → Type 0
+SaysOf Three Began = Makes (Then SpellsName (Then SpellsHost (Then SpellsNone (Then SpellsKind (Then SpellsNumber (Then SpellsNumber NoMore)))))) (λ v. change.Began (first v) (lease_of (second v) (fourth v) (fifth v)) (sixth v))
+SaysOf Three Moved = Makes (Then SpellsName (Then SpellsHost (Then SpellsNumber (Then SpellsNumber NoMore)))) (λ v. change.Moved (first v) (second v) (third v) (fourth v))
+SaysOf Three Released = Makes (Then SpellsName (Then SpellsHost (Then SpellsNumber NoMore))) (λ v. change.Released (first v) (second v) (third v))
+SaysOf Three Reached = Makes (Then SpellsNumber NoMore) (λ v. change.Reached (first v))
+SaysOf Three Looked = Makes (Then SpellsNumber (Then SpellsNumber NoMore)) (λ v. change.Looked (first v) (second v))
+SaysOf Two Began = Makes (Then SpellsName (Then SpellsHost (Then SpellsKind (Then SpellsNumber NoMore)))) (λ v. change.Began (first v) (lease_of (second v) (third v) (fourth v)) 0)
+SaysOf Two Moved = Makes (Then SpellsName (Then SpellsHost (Then SpellsNumber NoMore))) (λ v. change.Moved (first v) (second v) (third v) 0)
+SaysOf Two Released = Makes (Then SpellsName (Then SpellsHost NoMore)) (λ v. change.Released (first v) (second v) 0)
+SaysOf Two Reached = λ words c. ⊥
+SaysOf Two Looked = λ words c. ⊥
 
 -- What the words of a line say.
-pub data Says : List (List ℕ) → Change → Type 0 where
-  says : (verb : Verb) (rest : List (List ℕ)) (c : Change) → SaysOf verb rest c → Says (verb_word verb ∷ rest) c
+pub data Says (form : Form) : List (List ℕ) → Change → Type 0 where
+  says : (verb : Verb) (rest : List (List ℕ)) (c : Change) → SaysOf form verb rest c → Says form (verb_word verb ∷ rest) c
 
--- The line of a change: its words, closed by their checksum.
-pub record IsRecord (line : List ℕ) (c : Change) : Type 0 where
+-- The line of a change behind one with this checksum: its words, closed by theirs.
+pub record IsRecord (form : Form) (sum : ℕ) (line : List ℕ) (c : Change) (next : ℕ) : Type 0 where
   pub body : List ℕ
-  pub line_is : line ≡ sealed body
-  pub words_say : Says (words_of body) c
+  pub line_is : line ≡ sealed (chained form sum) body
+  pub words_say : Says form (words_of body) c
+  pub next_is : next ≡ checksum (chained form sum) body

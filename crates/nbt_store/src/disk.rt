@@ -10,6 +10,11 @@ pub trait Disk {
     /// What a call of it is: the disk before, what the call did, and the disk afterwards.
     ghost does: { Self → DiskCall → Self → Type 0 };
 
+    /// Refused where the folder isn't the one any more that the disk began with, as where somebody moved it. The disk stays as it is.
+    fn check(&self) -> io::Result<()> {
+        Ok(())
+    }
+
     /// Makes a new file of these octets beside the file, and opens it in place of what was open.
     fn create(&mut self, octets: &[u8]) -> io::Result<()>
         ensures { does self.old (creating octets.now result) self.new };

@@ -1,10 +1,10 @@
 //! A store over a disk.
 
-ghost use Rattle.std.specs.Prelude.{◌≡◌, [], ◌∷◌, List, ℕ, false, true, is_err, is_some, length, IfOk};
+ghost use Rattle.std.specs.Prelude.{◌≡◌, [], ◌∷◌, List, ℕ, false, true, is_err, is_some, length, Ok, IfOk};
 ghost use Rattle.nbt_port.specs.PortCalls.{Chain};
 ghost use Rattle.nbt_store.specs.Calls.{appending, renewing};
 ghost use Rattle.nbt_store.specs.DiskCalls.{DiskCall, created, flushed, installed};
-ghost use Rattle.nbt_store.specs.DiskStores.{Asks, IsNewFile, disk_of, is_broken, is_long_by, lines_of, written_of};
+ghost use Rattle.nbt_store.specs.DiskStores.{Asks, IsNewFile, disk_of, is_broken, is_long_by, lines_of, sum_in, sum_of, written_of};
 
 use crate::change::Change;
 use crate::disk::Disk;
@@ -24,12 +24,14 @@ const TIMES: usize = 4;
 const LINES_LEAST: usize = 1_024;
 
 /// A store over a disk: its file has the lines of the leases with which it was written, and one for each change since. After a
-/// call that failed the store is broken: each later call is refused, and asks nothing of the disk.
+/// call that failed the store is broken: each later call is refused, and asks nothing of the disk. The store knows the checksum of the
+/// last line, from which that of the next goes on.
 #[derive(Drop)]
 pub struct DiskStore<D> {
     disk: D,
     written: usize,
     lines: usize,
+    sum: u32,
     error: Option<io::Error>,
     alloc: Global,
 }
@@ -43,13 +45,14 @@ impl<D: Disk + Drop> DiskStore<D> {
         header: &Header,
         rows: &[(Name, Lease)],
     ) -> io::Result<DiskStore<D>>
-        ensures { IfOk result (λ store. (text : List ℕ) × IsNewFile text header.now rows.now × Chain D.does disk (created text ∷ flushed ∷ installed ∷ []) (disk_of store) × (is_broken store ≡ false) × (lines_of store ≡ length rows.now) × (written_of store ≡ length rows.now)) }
+        ensures { IfOk result (λ store. (text : List ℕ) × IsNewFile text header.now rows.now (sum_of store) × Chain D.does disk (created text ∷ flushed ∷ installed ∷ []) (disk_of store) × (is_broken store ≡ false) × (lines_of store ≡ length rows.now) × (written_of store ≡ length rows.now)) }
     {
-        write_anew(alloc, header, rows, &mut disk)?;
+        let sum = write_anew(alloc, header, rows, &mut disk)?;
         Ok(DiskStore {
             disk,
             written: rows.len(),
             lines: rows.len(),
+            sum,
             error: None,
             alloc,
         })
@@ -64,16 +67,18 @@ impl<D> DiskStore<D> {
         &self.disk
     }
 
-    /// What a call of the disk did; if it failed, the store keeps why, and is broken.
-    fn note(&mut self, done: io::Result<()>) -> Result<(), Broken>
+    /// What a call of the disk did, with what it returned; if it failed, the store keeps why, and is broken.
+    fn note<T: Drop>(&mut self, done: io::Result<T>) -> Result<T, Broken>
         ensures result { is_err result ≡ is_err done }
+        ensures value { IfOk done (λ value. result ≡ Ok value) }
         ensures disk { disk_of self.new ≡ disk_of self.old }
+        ensures sum { sum_of self.new ≡ sum_of self.old }
         ensures lines { lines_of self.new ≡ lines_of self.old }
         ensures written { written_of self.new ≡ written_of self.old }
         ensures broken { is_broken self.old ≡ false → is_broken self.new ≡ is_err done }
     {
         match done {
-            Ok(()) => Ok(()),
+            Ok(value) => Ok(value),
             Err(why) => {
                 self.error = Some(why);
                 Err(Broken)
@@ -82,29 +87,41 @@ impl<D> DiskStore<D> {
     }
 }
 
-/// Writes the file of these leases beside the old one, syncs it and puts it in its place.
+/// Writes the file of these leases beside the old one, syncs it and puts it in its place. Returns the checksum of its last line.
 fn write_anew<D: Disk>(
     alloc: Global,
     header: &Header,
     rows: &[(Name, Lease)],
     disk: &mut D,
-) -> io::Result<()>
-    ensures { (asked : List DiskCall) × Chain D.does disk.old asked disk.new × Asks (renewing header.now rows.now result) asked }
+) -> io::Result<u32>
+    ensures { (asked : List DiskCall) × Chain D.does disk.old asked disk.new × ((sum : ℕ) → Asks (renewing header.now rows.now result) sum asked (sum_in result)) }
 {
     let mut text = String::new(alloc);
-    write_file(alloc, header, rows, &mut text)?;
+    let sum = write_file(alloc, header, rows, &mut text)?;
     disk.create(text.as_bytes())?;
     disk.sync()?;
-    disk.install()
+    disk.install()?;
+    Ok(sum)
 }
 
-/// Writes the line of a change at the end of the file.
-fn write_line<D: Disk>(alloc: Global, change: &Change, disk: &mut D) -> io::Result<()>
-    ensures { (asked : List DiskCall) × Chain D.does disk.old asked disk.new × Asks (appending change.now result) asked }
+/// Writes the line of a change at the end of the file, behind one with this checksum. Returns its own. Where nothing but a time is to
+/// be written, the disk is asked first whether it is there still.
+fn write_line<D: Disk>(alloc: Global, sum: u32, change: &Change, disk: &mut D) -> io::Result<u32>
+    ensures { (asked : List DiskCall) × Chain D.does disk.old asked disk.new × Asks (appending change.now result) sum asked (sum_in result) }
 {
+    check_before(change, disk)?;
     let mut line = String::new(alloc);
-    write_change(alloc, change, &mut line)?;
-    disk.append(line.as_bytes())
+    let next = write_change(alloc, sum, change, &mut line)?;
+    disk.append(line.as_bytes())?;
+    Ok(next)
+}
+
+/// Asks the disk whether it is there still, where the change is none of a lease.
+fn check_before<D: Disk>(change: &Change, disk: &D) -> io::Result<()> {
+    match change {
+        Change::Reached { .. } | Change::Looked { .. } => disk.check(),
+        Change::Began { .. } | Change::Moved { .. } | Change::Released { .. } => Ok(()),
+    }
 }
 
 impl<D: Disk> Store for DiskStore<D> {
@@ -116,8 +133,8 @@ impl<D: Disk> Store for DiskStore<D> {
         if self.error.is_some() {
             return Err(Broken);
         }
-        let done = write_line(self.alloc, change, &mut self.disk);
-        self.note(done)?;
+        let done = write_line(self.alloc, self.sum, change, &mut self.disk);
+        self.sum = self.note(done)?;
         self.lines = self.lines.saturating_add(1);
         Ok(())
     }
@@ -135,7 +152,7 @@ impl<D: Disk> Store for DiskStore<D> {
             return Err(Broken);
         }
         let done = write_anew(self.alloc, header, rows, &mut self.disk);
-        self.note(done)?;
+        self.sum = self.note(done)?;
         self.written = rows.len();
         self.lines = rows.len();
         Ok(())

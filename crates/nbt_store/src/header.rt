@@ -1,6 +1,6 @@
 //! Whose changes a file has: the second line.
 
-ghost use Rattle.std.specs.Prelude.{◌≡◌, ◌↔◌, Some, IfOk};
+ghost use Rattle.std.specs.Prelude.{◌≡◌, ◌↔◌, ℕ, Some, IfOk, MatchOption};
 ghost use Rattle.nbt_text.specs.Texts.{texts};
 ghost use Rattle.nbt_store.specs.declared.header.Head.{Head as HeadSeen};
 ghost use Rattle.nbt_store.specs.Lines.{IsHead, SpellsHead};
@@ -71,15 +71,18 @@ pub(crate) struct Head {
     pub leases: u64,
 }
 
-/// Reads the second line, without its line feed: `None` if it is no such line.
-pub(crate) fn read_head(alloc: Global, line: &[u8]) -> Result<Option<Head>, AllocError>
-    ensures { IfOk result (λ found. (head : HeadSeen) → (found ≡ Some head) ↔ IsHead line.now head) }
+/// Reads the second line, without its line feed; returns its checksum beside. `None` if it is no such line.
+pub(crate) fn read_head(alloc: Global, line: &[u8]) -> Result<Option<(Head, u32)>, AllocError>
+    ensures { IfOk result (λ found. MatchOption found ((head : HeadSeen) (sum : ℕ) → ¬ IsHead line.now head sum) (λ p. IsHead line.now p.0 p.1)) }
 {
-    let Some(body) = unsealed(line) else {
+    let Some((body, sum)) = unsealed(0, line) else {
         return Ok(None);
     };
     let words = words_of(alloc, body)?;
-    Ok(head_in(words.as_slice()))
+    let Some(head) = head_in(words.as_slice()) else {
+        return Ok(None);
+    };
+    Ok(Some((head, sum)))
 }
 
 /// The words of the second line.

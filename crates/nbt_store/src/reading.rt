@@ -1,28 +1,29 @@
 //! The file of a store as it is read, line by line.
 
-ghost use Rattle.std.specs.Prelude.{◌≡◌, ◌<◌, ◌≤◌, ◌↔◌, IsTrue, List, ℕ, [], ◌∷◌, length, IfOk, IfErr, IfSome, OnOk, MatchOption};
+ghost use Rattle.std.specs.Prelude.{◌≡◌, ◌<◌, ◌≤◌, ◌+◌, List, ℕ, [], ◌∷◌, length, IfOk, IfErr, IfSome, OnOk, MatchOption};
 ghost use Rattle.std.specs.List.{IsDistinct};
 ghost use Rattle.std.specs.Map.{keys_of};
 ghost use Rattle.nbt_name.specs.Wire.{same_name};
 ghost use Rattle.nbt_lease.specs.Inner.Index.{members_of};
 ghost use Rattle.nbt_store.specs.declared.change.Change.{Change as ChangeValue};
 ghost use Rattle.nbt_store.specs.declared.header.Header.{Header as HeaderValue};
-ghost use Rattle.nbt_store.specs.Changes.{after_all};
-ghost use Rattle.nbt_store.specs.Lines.{AreRecords, line_number, version, whole_lines};
-ghost use Rattle.nbt_store.specs.Reading.{HasFront, HasHeader, HasNone, IsBadLine, IsBadRest, IsLoaded, IsRefused, counted};
+ghost use Rattle.nbt_store.specs.Changes.{after, after_all, no_leases};
+ghost use Rattle.nbt_store.specs.Lines.{AreBefore, StandsIn, line_number, whole_lines};
+ghost use Rattle.nbt_store.specs.Reading.{HasFront, HasHeader, HasNone, IsBadHere, IsBadLine, IsBadRest, IsLoaded, IsRefused, counted};
+ghost use Rattle.nbt_store.specs.Records.{IsRecord};
+ghost use Rattle.nbt_store.specs.Times.{first_times, times_after, times_after_all};
 
 use crate::fault::{Fault, ReadFault};
+use crate::form::Form;
 use crate::header::{Head, Header, read_head};
 use crate::record::read_record;
-use crate::table::{Group, apply, list_rows};
+use crate::table::{Group, apply, list_rows, stands_in};
+use crate::times::Times;
 use indexmap::IndexMap;
 use nbt_lease::Lease;
 use nbt_name::Name;
 use nbt_text::{NEWLINE, split_at_first};
 use std::alloc::{AllocError, Global};
-
-/// The first line (our profile).
-const VERSION: &[u8] = b"nbt leases, version 3";
 
 /// The number of the header's line.
 const HEAD_LINE: usize = 2;
@@ -33,26 +34,53 @@ const FIRST_LINE: usize = 3;
 /// What is kept.
 #[derive(Drop)]
 pub struct Loaded {
-    /// Under which limits, and at which times.
+    /// Which form the file has.
+    pub form: Form,
+    /// Under which limits, and at which times it was written.
     pub header: Header,
+    /// Until when it goes. In the older form that is when it was written.
+    pub times: Times,
     /// The leases, those of one name in order of their beginnings. Leases that are over may be among them.
     pub rows: Vec<(Name, Lease)>,
 }
 
-/// Loads the octets of a file: its header, and the leases that its changes make in their order. What stands behind the last
-/// line feed was torn by a crash, and is left out. Refused in this order: `Empty` (1) if no line has its end, `Version` (2)
-/// if the first is of another version, `Damaged` (3) with the number of the first line that isn't what it should be, or that is missing
-/// of the leases with which the file was written; and with `Memory` if out of memory.
+/// What stands in the first two lines.
+#[derive(Drop)]
+struct Front<'a> {
+    form: Form,
+    head: Head,
+    sum: u32,
+    rest: &'a [u8],
+}
+
+/// How far a file was read: the checksum of the last line, how many lines of changes, and until when they go.
+#[derive(Clone, Copy, Debug, PartialEq, Eq)]
+pub(crate) struct Progress {
+    /// The checksum of the last line.
+    pub sum: u32,
+    /// How many lines of changes there are.
+    pub count: usize,
+    /// Until when they go.
+    pub times: Times,
+}
+
+/// Loads the octets of a file: its header, until when it goes, and the leases that its changes make in their order. What stands behind
+/// the last line feed was torn by a crash, and is left out. Refused in this order: `Empty` (1) if no line has its end, `Version` (2)
+/// if the first is of another version, `Damaged` (3) with the number of the first line that isn't what it should be, or moves or
+/// releases a lease that isn't there, or that is missing of the leases with which the file was written; and with `Memory` if out of
+/// memory. Of the older form it is not asked whether a lease is there.
 pub fn load(alloc: Global, octets: &[u8]) -> Result<Loaded, ReadFault>
-    ensures loaded { IfOk result (λ l. IsLoaded octets.now l.header l.rows.items) }
+    ensures loaded { IfOk result (λ l. IsLoaded octets.now l.form l.header l.times l.rows.items) }
     ensures refused { IfErr result (IsRefused octets.now) }
 {
-    let (head, rest) = read_front(alloc, octets)?;
+    let front = read_front(alloc, octets)?;
     let mut members = IndexMap::new(alloc);
-    read_rest(alloc, rest, head.leases, &mut members)?;
+    let times = read_rest(alloc, &front, &mut members)?;
     let rows = list_rows(alloc, &members)?;
     Ok(Loaded {
-        header: head.header,
+        form: front.form,
+        header: front.head.header,
+        times,
         rows,
     })
 }
@@ -63,57 +91,62 @@ pub fn load_header(alloc: Global, octets: &[u8]) -> Result<Option<Header>, Alloc
     ensures { IfOk result (λ found. MatchOption found ((h : HeaderValue) → ¬ HasHeader octets.now h) (HasHeader octets.now)) }
 {
     match read_front(alloc, octets) {
-        Ok((head, _rest)) => Ok(Some(head.header)),
+        Ok(front) => Ok(Some(front.head.header)),
         Err(ReadFault::File(_)) => Ok(None),
         Err(ReadFault::Memory) => Err(AllocError),
     }
 }
 
-/// Reads the first two lines; returns the head, and what stands behind them.
-fn read_front(alloc: Global, octets: &[u8]) -> Result<(Head, &[u8]), ReadFault>
-    ensures front { IfOk result (λ p. HasFront octets.now p.0 p.1.now) }
+/// Reads the first two lines.
+fn read_front(alloc: Global, octets: &[u8]) -> Result<Front<'_>, ReadFault>
+    ensures front { IfOk result (λ f. HasFront octets.now f.form f.head f.sum f.rest.now) }
     ensures refused { IfErr result (IsRefused octets.now) }
     ensures none { IfErr result (HasNone octets.now) }
 {
     let Some((first, behind)) = next_line(octets) else {
         return Err(ReadFault::File(Fault::Empty));
     };
-    if !is_version(first) {
+    let Some(form) = Form::of_line(first) else {
         return Err(ReadFault::File(Fault::Version));
-    }
+    };
     let Some((second, rest)) = next_line(behind) else {
         return Err(ReadFault::File(Fault::Damaged(HEAD_LINE)));
     };
-    let Some(head) = read_head(alloc, second)? else {
+    let Some((head, sum)) = read_head(alloc, second)? else {
         return Err(ReadFault::File(Fault::Damaged(HEAD_LINE)));
     };
-    Ok((head, rest))
+    Ok(Front {
+        form,
+        head,
+        sum,
+        rest,
+    })
 }
 
-/// Whether a line is the first one of this version.
-fn is_version(line: &[u8]) -> bool
-    ensures { IsTrue result ↔ (line.now ≡ version) }
-{
-    line == VERSION
-}
-
-/// Makes the changes of the lines that have their end, in order, of which there are so many at least.
+/// Makes the changes of the lines behind the first two that have their end, in order, of which there are as many at least as leases
+/// with which the file was written. Returns until when they go.
 fn read_rest(
     alloc: Global,
-    octets: &[u8],
-    leases: u64,
+    front: &Front<'_>,
     members: &mut IndexMap<Name, Group>,
-) -> Result<(), ReadFault>
+) -> Result<Times, ReadFault>
     requires names { IsDistinct same_name (keys_of members.old.entries) }
-    ensures changes { OnOk result ((cs : List ChangeValue) × AreRecords (whole_lines octets.now) cs × (leases ≤ length cs) × (members_of members.new.entries ≡ after_all cs (members_of members.old.entries))) }
-    ensures refused { IfErr result (IsBadRest (whole_lines octets.now) leases) }
+    requires none { members_of members.old.entries ≡ no_leases }
+    ensures changes { IfOk result (λ times. (cs : List ChangeValue) × (last : ℕ) × AreBefore front.now.form front.now.sum (whole_lines front.now.rest.now) cs last × (front.now.head.leases ≤ length cs)
+        × (times ≡ times_after_all cs (first_times front.now.head.header)) × (members_of members.new.entries ≡ after_all cs no_leases)) }
+    ensures refused { IfErr result (IsBadRest front.now.form front.now.sum (whole_lines front.now.rest.now) front.now.head.leases) }
     ensures names { OnOk result (IsDistinct same_name (keys_of members.new.entries)) }
 {
-    let count = read_changes(alloc, octets, members)?;
-    if (count as u64) < leases {
-        return Err(ReadFault::File(Fault::Damaged(line_of(count))));
+    let first = Progress {
+        sum: front.sum,
+        count: 0,
+        times: Times::first(&front.head.header),
+    };
+    let read = read_changes(alloc, front.form, first, front.rest, members)?;
+    if (read.count as u64) < front.head.leases {
+        return Err(ReadFault::File(Fault::Damaged(line_of(read.count))));
     }
-    Ok(())
+    Ok(read.times)
 }
 
 /// The number of the line of the next change.
@@ -123,28 +156,59 @@ fn line_of(count: usize) -> usize
     count.saturating_add(FIRST_LINE)
 }
 
-/// Makes the changes of the lines that have their end, in order. Returns how many these are.
+/// Makes the changes of the lines that have their end, in order, behind what was read. Returns how far they go.
 fn read_changes(
     alloc: Global,
+    form: Form,
+    first: Progress,
     octets: &[u8],
     members: &mut IndexMap<Name, Group>,
-) -> Result<usize, ReadFault>
+) -> Result<Progress, ReadFault>
     requires names { IsDistinct same_name (keys_of members.old.entries) }
-    ensures changes { IfOk result (λ count. (cs : List ChangeValue) × AreRecords (whole_lines octets.now) cs × (count ≡ counted (length cs)) × (members_of members.new.entries ≡ after_all cs (members_of members.old.entries))) }
-    ensures refused { IfErr result (IsBadLine (whole_lines octets.now)) }
+    requires none { members_of members.old.entries ≡ no_leases }
+    requires nothing { first.count ≡ 0 }
+    ensures changes { IfOk result (λ now. (cs : List ChangeValue) × AreBefore form first.sum (whole_lines octets.now) cs now.sum × (now.count ≡ counted (length cs))
+        × (now.times ≡ times_after_all cs first.times) × (members_of members.new.entries ≡ after_all cs no_leases)) }
+    ensures refused { IfErr result (IsBadLine form first.sum (whole_lines octets.now)) }
     ensures names { OnOk result (IsDistinct same_name (keys_of members.new.entries)) }
 {
-    let mut count = 0usize;
+    let mut now = first;
     let mut rest = octets;
     'lines: while let Some((line, others)) = next_line(rest) {
-        let Some(change) = read_record(alloc, line)? else {
-            return Err(ReadFault::File(Fault::Damaged(line_of(count))));
-        };
-        apply(alloc, members, change)?;
-        count = count.saturating_add(1);
+        now = read_change(alloc, form, now, line, members)?;
         rest = others;
     }
-    Ok(count)
+    Ok(now)
+}
+
+/// Makes the change of a line, behind what was read. Returns how far it goes then. Refused where it is no change's line, or of one
+/// without its lease.
+fn read_change(
+    alloc: Global,
+    form: Form,
+    now: Progress,
+    line: &[u8],
+    members: &mut IndexMap<Name, Group>,
+) -> Result<Progress, ReadFault>
+    requires names { IsDistinct same_name (keys_of members.old.entries) }
+    ensures made { IfOk result (λ next. (c : ChangeValue) × IsRecord form now.sum line.now c next.sum × StandsIn form c (members_of members.old.entries)
+        × (members_of members.new.entries ≡ after c (members_of members.old.entries)) × (next.times ≡ times_after c now.times) × (next.count ≡ counted (now.count + 1))) }
+    ensures refused { IfErr result (IsBadHere form now line.now (members_of members.old.entries)) }
+    ensures names { OnOk result (IsDistinct same_name (keys_of members.new.entries)) }
+{
+    let Some((change, sum)) = read_record(alloc, form, now.sum, line)? else {
+        return Err(ReadFault::File(Fault::Damaged(line_of(now.count))));
+    };
+    if !stands_in(form, members, &change) {
+        return Err(ReadFault::File(Fault::Damaged(line_of(now.count))));
+    }
+    let times = now.times.after(&change);
+    apply(alloc, members, change)?;
+    Ok(Progress {
+        sum,
+        count: now.count.saturating_add(1),
+        times,
+    })
 }
 
 /// The first line that has its end, and the octets behind it.

@@ -1,11 +1,14 @@
-//! Whether a server goes on with what is kept, or is silent, and why.
+//! Whether a server goes on with what is kept, and by which clock, or is silent, and why.
 
-ghost use Rattle.std.specs.Prelude.{◌≡◌};
+ghost use Rattle.std.specs.Prelude.{◌≡◌, ◌≤◌, ◌+◌, IfOk};
+ghost use Rattle.nbt_lease.specs.Config.{last_moment};
 ghost use Rattle.nbt_store.specs.Numbers.{silence_number};
-ghost use Rattle.nbt_store.specs.Silence.{ahead_at as ahead_at_time, ahead_in as ahead_in_boot, going_on};
+ghost use Rattle.nbt_store.specs.Silence.{IsInTime, bears_out as bears_it_out, by_new_clock as new_clock, by_other_clock as other_clock, by_same_clock as same_clock, going_on, has_sound_times as sound_times, is_same_clock as is_same, passed_since as passed};
 
 use crate::boot::Boot;
+use crate::form::Form;
 use crate::header::Header;
+use crate::times::Times;
 use nbt_lease::{Config, Moment};
 use thiserror::Error;
 
@@ -21,16 +24,22 @@ pub enum Silence {
     /// 3: they were granted under another number of rows.
     #[error("another number of rows")]
     OtherRows,
-    /// 4: they were kept in another boot, and the server is to be silent then.
+    /// 4: the file has times that no server keeps: a beginning after the last time, or a time past 2^60 ms.
+    #[error("times that no server keeps")]
+    BadTimes,
+    /// 5: they were kept in another boot, and the server is to be silent then.
     #[error("another boot")]
     OtherBoot,
-    /// 5: the clock is behind a time at which they were kept, or it can't be had.
-    #[error("clock went back")]
-    ClockBack,
+    /// 6: they were kept in this boot, but its clocks went apart since, and the server is to be silent then as after another boot.
+    #[error("clocks that went apart")]
+    Apart,
+    /// 7: they were kept in the older form, which has no times of changes, and the clock can't go on.
+    #[error("an older version")]
+    Older,
 }
 
 impl Silence {
-    /// The number of the reason, 1 to 5 (our profile).
+    /// The number of the reason, 1 to 7 (our profile).
     pub fn number(self) -> u8
         ensures { result ≡ silence_number self }
     {
@@ -38,27 +47,69 @@ impl Silence {
             Silence::OtherLife => 1,
             Silence::OtherLongest => 2,
             Silence::OtherRows => 3,
-            Silence::OtherBoot => 4,
-            Silence::ClockBack => 5,
+            Silence::BadTimes => 4,
+            Silence::OtherBoot => 5,
+            Silence::Apart => 6,
+            Silence::Older => 7,
         }
     }
 }
 
-/// By how many milliseconds the server's clock is ahead of the machine's, where a server with these limits goes on with the leases
-/// that were kept under this header; or why it is silent. `monotonic` is what the machine's clock reads in this boot, and `day`
-/// the time of day, both in ms. The first reason counts, in the order of `Silence`.
+/// What a machine's clocks show at a start.
+#[derive(Drop)]
+pub struct Seen<'a> {
+    /// The boot.
+    pub boot: &'a Boot,
+    /// The monotonic clock at first, in ms.
+    pub before: Moment,
+    /// Then the time of day, in ms since 1970.
+    pub day: Moment,
+    /// Then the monotonic clock again, in ms.
+    pub monotonic: Moment,
+}
+
+/// By which clock a server goes on. Times are milliseconds.
+#[derive(Clone, Copy, Debug, PartialEq, Eq)]
+pub struct Onward {
+    /// By how much later all times of the file count.
+    pub shift: u64,
+    /// By how much the clock is ahead of the machine's monotonic clock.
+    pub ahead: u64,
+    /// What it reads at the start.
+    pub reads: u64,
+    /// From which of its times on the server serves.
+    pub serves: u64,
+    /// How much time passed since the last time of the file, by the clock that shows the most.
+    pub passed: u64,
+}
+
+/// How much longer than its last time a server may have served that a start knows nothing more of, in milliseconds (our profile).
+const SECOND: u64 = 1_000;
+
+/// By how many milliseconds two clocks may go apart beside a thousandth (our profile).
+const SLACK: u128 = 200;
+
+/// The last time of a clock, in milliseconds (our profile).
+const LAST: u64 = 1 << 60;
+
+/// By which clock a server with these limits goes on with what was kept; or why it is silent. The first reason counts, in the order of
+/// `Silence`.
 ///
-/// In the boot of the header the clock is as much ahead as it was. In another boot it went on since the file was written as the
-/// time of day did: nobody may have set that in between. With `silent_after_boot` another boot is a reason.
+/// In the boot of the file the clock goes on as much ahead of the machine's as it was, where the time of day bears that out: since both
+/// were read together last, they went on by the same, within 200 ms and a thousandth. Else it goes on from the last time of the file: it
+/// stood while nobody served. Then nothing is served in its first second, since the server that kept the file may have served for as
+/// long after that time. Where the machine's clock is further, all times of the file count as later by the difference. With
+/// `silent_after_boot` a clock that stood is a reason.
 pub fn why_silent(
+    form: Form,
     header: &Header,
+    times: &Times,
     config: Config,
-    boot: &Boot,
-    monotonic: u64,
-    day: u64,
+    seen: &Seen<'_>,
     silent_after_boot: bool,
-) -> Result<u64, Silence>
-    ensures { result ≡ going_on header.now config boot.now monotonic day silent_after_boot }
+) -> Result<Onward, Silence>
+    ensures value { result ≡ going_on form header.now times.now config seen.now silent_after_boot }
+    ensures in_time { IfOk result (IsInTime header.now times.now seen.now) }
 {
     if header.life != config.life() {
         return Err(Silence::OtherLife);
@@ -69,35 +120,118 @@ pub fn why_silent(
     if header.rows != config.rows() as u64 {
         return Err(Silence::OtherRows);
     }
-    if silent_after_boot && header.boot.octets() != boot.octets() {
+    if !has_sound_times(header, times, seen) {
+        return Err(Silence::BadTimes);
+    }
+    if is_same_clock(header, times, seen) {
+        return Ok(by_same_clock(header, times, seen));
+    }
+    by_other_clock(form, header, times, seen, silent_after_boot)
+}
+
+/// Whether the times of the file are those of a server, and can be told now.
+fn has_sound_times(header: &Header, times: &Times, seen: &Seen<'_>) -> bool
+    ensures { result ≡ sound_times header.now times.now seen.now }
+{
+    header.start <= times.last
+        && times.seen <= times.last
+        && (times.last.saturating_add(SECOND) <= LAST && seen.monotonic.get() + SECOND <= LAST)
+}
+
+/// Whether the clock of the file goes on in this boot, and the time of day bears it out.
+fn is_same_clock(header: &Header, times: &Times, seen: &Seen<'_>) -> bool
+    ensures { result ≡ is_same header.now times.now seen.now }
+{
+    let reads = seen.monotonic.get().saturating_add(header.ahead);
+    header.boot.octets() == seen.boot.octets()
+        && times.last <= reads
+        && (reads <= LAST && bears_out(times, reads, seen.day.get()))
+}
+
+/// Whether the server's clock and the time of day went on by the same, within 200 ms and a thousandth, since both were read last.
+fn bears_out(times: &Times, reads: u64, day: u64) -> bool
+    ensures { result ≡ bears_it_out times.now.seen times.now.day reads day }
+{
+    let then = u128::from(times.seen);
+    let then_day = u128::from(times.day);
+    let now = u128::from(reads);
+    let now_day = u128::from(day);
+    1000 * now_day + 1001 * then <= 1000 * then_day + 1001 * now + 1000 * SLACK
+        && 1000 * now + 1001 * then_day <= 1000 * then + 1001 * now_day + 1000 * SLACK
+}
+
+/// How much time passed since the last time of the file, as the time of day shows it.
+fn passed_since(times: &Times, seen: &Seen<'_>) -> u64
+    requires { times.now.seen ≤ times.now.last }
+    ensures { result ≡ passed times.now seen.now }
+{
+    let late = seen.monotonic.get().saturating_sub(seen.before.get());
+    let now = seen.day.get() + late;
+    now.saturating_sub(times.day.saturating_add(times.last - times.seen))
+}
+
+/// The clock of the file, which goes on.
+fn by_same_clock(header: &Header, times: &Times, seen: &Seen<'_>) -> Onward
+    requires begun { header.now.start ≤ times.now.last }
+    requires known { times.now.seen ≤ times.now.last }
+    requires further { times.now.last ≤ seen.now.monotonic + header.now.ahead }
+    requires fits { seen.now.monotonic + header.now.ahead ≤ last_moment }
+    ensures value { result ≡ same_clock header.now times.now seen.now }
+    ensures in_time { IsInTime header.now times.now seen.now result }
+{
+    let reads = seen.monotonic.get() + header.ahead;
+    Onward {
+        shift: 0,
+        ahead: header.ahead,
+        reads,
+        serves: reads,
+        passed: passed_since(times, seen).max(reads - times.last),
+    }
+}
+
+/// A clock that stood, unless the server is to be silent then.
+fn by_other_clock(
+    form: Form,
+    header: &Header,
+    times: &Times,
+    seen: &Seen<'_>,
+    silent_after_boot: bool,
+) -> Result<Onward, Silence>
+    requires begun { header.now.start ≤ times.now.last }
+    requires known { times.now.seen ≤ times.now.last }
+    requires fits { times.now.last + 1000 ≤ last_moment }
+    requires fits_here { seen.now.monotonic + 1000 ≤ last_moment }
+    ensures value { result ≡ other_clock form header.now times.now seen.now silent_after_boot }
+    ensures in_time { IfOk result (IsInTime header.now times.now seen.now) }
+{
+    if silent_after_boot && header.boot.octets() != seen.boot.octets() {
         return Err(Silence::OtherBoot);
     }
-    ahead_in(header, boot, monotonic, day)
+    if silent_after_boot {
+        return Err(Silence::Apart);
+    }
+    match form {
+        Form::Two => Err(Silence::Older),
+        Form::Three => Ok(by_new_clock(header, times, seen)),
+    }
 }
 
-/// By how much the server's clock is ahead in this boot, at these times.
-fn ahead_in(header: &Header, boot: &Boot, monotonic: u64, day: u64) -> Result<u64, Silence>
-    ensures { result ≡ ahead_in_boot header.now boot.now monotonic day }
+/// A clock that goes on from the last time of the file.
+fn by_new_clock(header: &Header, times: &Times, seen: &Seen<'_>) -> Onward
+    requires begun { header.now.start ≤ times.now.last }
+    requires known { times.now.seen ≤ times.now.last }
+    requires fits { times.now.last + 1000 ≤ last_moment }
+    requires fits_here { seen.now.monotonic + 1000 ≤ last_moment }
+    ensures value { result ≡ new_clock times.now seen.now }
+    ensures in_time { IsInTime header.now times.now seen.now result }
 {
-    if header.boot.octets() == boot.octets() {
-        return ahead_at(header, monotonic, monotonic.saturating_add(header.ahead));
+    let monotonic = seen.monotonic.get();
+    let reads = times.last.max(monotonic);
+    Onward {
+        shift: reads - times.last,
+        ahead: reads - monotonic,
+        reads,
+        serves: reads + SECOND,
+        passed: passed_since(times, seen),
     }
-    if day < header.day {
-        return Err(Silence::ClockBack);
-    }
-    ahead_at(
-        header,
-        monotonic,
-        header.last.saturating_add(day - header.day),
-    )
-}
-
-/// By how much the server's clock is ahead where its time is this one.
-fn ahead_at(header: &Header, monotonic: u64, now: u64) -> Result<u64, Silence>
-    ensures { result ≡ ahead_at_time header.now monotonic now }
-{
-    if now < header.start || now < header.last || now < monotonic || Moment::new(now).is_none() {
-        return Err(Silence::ClockBack);
-    }
-    Ok(now - monotonic)
 }

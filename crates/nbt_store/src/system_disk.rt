@@ -8,14 +8,21 @@ use crate::boot::Boot;
 use crate::disk::Disk;
 use crate::syncs::Syncs;
 use std::alloc::Global;
-use std::fs::{File, OpenFile};
+use std::fs::{File, Metadata, OpenFile, Permissions};
 use std::io::{ErrorKind, Read, Write};
+use std::os::unix::fs::{MetadataExt, OpenOptionsExt, PermissionsExt};
 use std::rt::Files;
 use std::{fs, io, time};
 
 /// What the file `lock` says (our profile): an empty file might be taken for one that may be replaced, and a lock whose file is
 /// replaced locks nobody out.
 const LOCK_LINE: &[u8] = b"# lock of nbt nbns\n";
+
+/// Who may open the file `lock`: its owner alone (our profile). Who can open it can hold its lock.
+const LOCK_MODE: u32 = 0o600;
+
+/// So many octets of it are read at most: more than it says.
+const LOCK_MOST: usize = 64;
 
 /// A file has fewer octets: this is more than any store writes (our profile).
 const FILE_MOST: u64 = 1 << 26;
@@ -33,8 +40,25 @@ pub fn this_boot<R: Files>(rt: &R, alloc: Global) -> io::Result<Option<Boot>> {
     }
 }
 
+/// Which file of the system it is: that of no other path, but for a further link to it.
+#[derive(Clone, Copy, Debug, PartialEq, Eq)]
+struct Mark {
+    device: u64,
+    inode: u64,
+}
+
+impl Mark {
+    /// That of a file with these attributes.
+    fn of(metadata: &Metadata) -> Mark {
+        Mark {
+            device: metadata.dev(),
+            inode: metadata.ino(),
+        }
+    }
+}
+
 /// A folder of the system: its file `leases`, the new file `leases.new` beside it, and the file `lock`, which it holds locked for
-/// as long as it lasts.
+/// as long as it lasts. Whoever has this value has the lock.
 #[derive(Drop)]
 pub struct SystemDisk<'a, R: Files> {
     machine: &'a R,
@@ -42,33 +66,41 @@ pub struct SystemDisk<'a, R: Files> {
     path: String,
     new_path: String,
     bad_path: String,
-    _lock: File,
+    lock_path: String,
+    lock: Mark,
+    _locked: File,
     open: Option<R::File>,
     syncs: Syncs,
 }
 
 impl<'a, R: Files<File = File>> SystemDisk<'a, R> {
-    /// Opens a folder, which has to be there, and locks its file `lock`, which is made if it isn't there, and says then what it is.
-    /// Refused with an error of the kind `WouldBlock` if another holds that lock, and with no such error otherwise, as where `lock` is
-    /// no regular file; or if out of memory.
+    /// Opens a folder, which has to be there, and locks its file `lock`, which is made if it isn't there, for its owner alone, and says
+    /// then what it is. Refused with an error of the kind `WouldBlock` if another holds that lock, and with no such error otherwise, as
+    /// where `lock` is no regular file, or one that says something else; or if out of memory.
     pub fn open_folder(
         machine: &'a R,
         alloc: Global,
         folder: &'a str,
     ) -> io::Result<SystemDisk<'a, R>> {
-        let mut lock = open_lock(machine, alloc, folder)?;
-        lock.try_lock()?;
-        lock.write_all(LOCK_LINE)?;
-        Ok(SystemDisk {
+        let lock_path = format!(in alloc; "{folder}/lock")?;
+        let mut locked = open_lock(machine, lock_path.as_str())?;
+        locked.try_lock()?;
+        say_lock(&mut locked)?;
+        let lock = Mark::of(&locked.metadata()?);
+        let disk = SystemDisk {
             machine,
             folder,
             path: format!(in alloc; "{folder}/leases")?,
             new_path: format!(in alloc; "{folder}/leases.new")?,
             bad_path: format!(in alloc; "{folder}/leases.bad")?,
-            _lock: lock,
+            lock_path,
+            lock,
+            _locked: locked,
             open: None,
             syncs: Syncs::NONE,
-        })
+        };
+        disk.check_lock()?;
+        Ok(disk)
     }
 
     /// The octets of the file; `None` where there is none. Refused where it is no regular file, or has 64 MiB or more; or if out of memory.
@@ -90,6 +122,19 @@ impl<'a, R: Files<File = File>> SystemDisk<'a, R> {
     pub fn set_aside(&mut self) -> io::Result<()> {
         fs::rename(self.machine, self.path.as_str(), self.bad_path.as_str())?;
         sync_folder(self.machine, self.folder)
+    }
+}
+
+impl<R: Files> SystemDisk<'_, R> {
+    /// Refused where the file `lock` of the folder isn't the one any more that is locked: the folder was moved, or another is in its
+    /// place. No link is followed.
+    fn check_lock(&self) -> io::Result<()> {
+        let there = fs::symlink_metadata(self.machine, self.lock_path.as_str())?;
+        if there.is_file() && Mark::of(&there) == self.lock {
+            Ok(())
+        } else {
+            Err(io::Error::other("the folder was moved or replaced"))
+        }
     }
 }
 
@@ -116,14 +161,32 @@ fn check_kind<R: Files>(machine: &R, path: &str, why_not: &'static str) -> io::R
     }
 }
 
-/// Opens the file `lock` of a folder, and makes it if it isn't there.
-fn open_lock<R: Files>(machine: &R, alloc: Global, folder: &str) -> io::Result<R::File> {
-    let path = format!(in alloc; "{folder}/lock")?;
-    check_kind(machine, path.as_str(), "lock is no regular file")?;
+/// Opens the file `lock` of a folder, and makes it if it isn't there, for its owner alone.
+fn open_lock<R: Files>(machine: &R, path: &str) -> io::Result<R::File> {
+    check_kind(machine, path, "lock is no regular file")?;
     let mut how = File::options();
+    how.read(true);
     how.write(true);
     how.create(true);
-    how.open(machine, path.as_str())
+    how.mode(LOCK_MODE);
+    let file = how.open(machine, path)?;
+    file.set_permissions(Permissions::from_mode(LOCK_MODE))?;
+    Ok(file)
+}
+
+/// Has the file `lock` say what it is, where it is empty. Refused where it says something else: it is somebody's file.
+fn say_lock(file: &mut File) -> io::Result<()> {
+    let mut octets = [0; LOCK_MOST];
+    let count = file.read(&mut octets)?;
+    let said = &octets[..count];
+    if said.is_empty() {
+        return file.write_all(LOCK_LINE);
+    }
+    if said == LOCK_LINE {
+        Ok(())
+    } else {
+        Err(io::Error::other("lock is another file"))
+    }
 }
 
 /// Makes the names of a folder durable.
@@ -139,7 +202,12 @@ fn opened<F>(file: &mut Option<F>) -> io::Result<&mut F> {
 impl<'a, R: Files + time::Clock> Disk for SystemDisk<'a, R> {
     ghost does = { λ _ _ _. ⊤ };
 
+    fn check(&self) -> io::Result<()> {
+        self.check_lock()
+    }
+
     fn create(&mut self, octets: &[u8]) -> io::Result<()> {
+        self.check_lock()?;
         check_kind(
             self.machine,
             self.new_path.as_str(),

@@ -1,13 +1,15 @@
 //! The leases of each name, as changes make them.
 
-ghost use Rattle.std.specs.Prelude.{◌≡◌, ◌++◌, ◌∷◌, [], Some, None, map, OnOk, IfOk, IfSome, IfNone, if◌then◌else◌};
+ghost use Rattle.std.specs.Prelude.{◌≡◌, ◌↔◌, ◌++◌, ◌∷◌, [], Any, IsTrue, Some, None, map, OnOk, IfOk, IfSome, IfNone, if◌then◌else◌};
 ghost use Rattle.std.specs.List.{IsDistinct};
 ghost use Rattle.std.specs.Map.{keys_of, lookup};
 ghost use Rattle.nbt_name.specs.Wire.{NameValue, same_name};
 ghost use Rattle.nbt_lease.specs.Inner.Index.{members_of, rows_of};
-ghost use Rattle.nbt_store.specs.Changes.{after, begins, goes, moved, moves, with_end, without};
+ghost use Rattle.nbt_store.specs.Lines.{StandsIn};
+ghost use Rattle.nbt_store.specs.Changes.{Stands, after, begins, goes, moved, moves, with_end, without};
 
 use crate::change::Change;
+use crate::form::Form;
 use indexmap::IndexMap;
 use nbt_lease::Lease;
 use nbt_name::Name;
@@ -44,6 +46,13 @@ impl Group {
         ensures { result.now ≡ self.now }
     {
         self.leases.as_slice()
+    }
+
+    /// Whether there is a lease of this address.
+    fn has(&self, addr: u32) -> bool
+        ensures { IsTrue result ↔ Any (λ lease. lease.addr ≡ addr) self.now }
+    {
+        self.leases.iter().any(|lease| lease.addr == addr)
     }
 
     /// A lease begins: it goes last, and one of its address goes. If out of memory, it may have gone.
@@ -106,6 +115,37 @@ fn lease_with_end(lease: Lease, addr: u32, end: u64) -> Lease
         }
     } else {
         lease
+    }
+}
+
+/// Whether a change that moves or releases a lease has one; in the older form that isn't asked.
+pub(crate) fn stands_in(form: Form, members: &IndexMap<Name, Group>, change: &Change) -> bool
+    ensures { IsTrue result ↔ StandsIn form change.now (members_of members.now.entries) }
+{
+    match form {
+        Form::Two => true,
+        Form::Three => stands(members, change),
+    }
+}
+
+/// Whether a change that moves or releases a lease has one.
+fn stands(members: &IndexMap<Name, Group>, change: &Change) -> bool
+    ensures { IsTrue result ↔ Stands change.now (members_of members.now.entries) }
+{
+    match change {
+        Change::Moved { name, addr, .. } => has_lease(members, name, *addr),
+        Change::Released { name, addr, .. } => has_lease(members, name, *addr),
+        Change::Began { .. } | Change::Reached { .. } | Change::Looked { .. } => true,
+    }
+}
+
+/// Whether an address has a lease of a name.
+fn has_lease(members: &IndexMap<Name, Group>, name: &Name, addr: u32) -> bool
+    ensures { IsTrue result ↔ Any (λ lease. lease.addr ≡ addr) (members_of members.now.entries name.now) }
+{
+    match members.get(name) {
+        Some(group) => group.has(addr),
+        None => false,
     }
 }
 

@@ -1,15 +1,16 @@
 //! Lines as they are written.
 
-ghost use Rattle.std.specs.Prelude.{◌≡◌, ◌++◌, List, ℕ, [], ◌∷◌, OnOk, codes, length, map};
+ghost use Rattle.std.specs.Prelude.{◌≡◌, ◌++◌, List, ℕ, [], ◌∷◌, IfOk, OnOk, codes, length, map};
 ghost use Rattle.std.specs.Fmt.{decimal};
 ghost use Rattle.std.specs.String.{string_bytes};
 ghost use Rattle.nbt_text.specs.Lines.{one_line, words as words_spoken};
 ghost use Rattle.nbt_text.specs.NameText.{SpellsName};
 ghost use Rattle.nbt_text.specs.Number.{SpellsNumber};
 ghost use Rattle.nbt_store.specs.declared.change.Change.TheVariants as changes;
+ghost use Rattle.nbt_store.specs.declared.form.Form.TheVariants.{Three};
 ghost use Rattle.nbt_store.specs.Boot.{AreMarks, SpellsBoot};
-ghost use Rattle.nbt_store.specs.Checksum.{sealed};
-ghost use Rattle.nbt_store.specs.Lines.{HaveLines, IsClosed, IsFile, IsHead, IsLine, SpellsHead, version};
+ghost use Rattle.nbt_store.specs.Checksum.{checksum as checksum_of, sealed};
+ghost use Rattle.nbt_store.specs.Lines.{HaveLines, IsClosed, IsFile, IsHead, IsLine, SpellsHead};
 ghost use Rattle.nbt_store.specs.Changes.{begun_all};
 ghost use Rattle.nbt_store.specs.Records.{IsRecord, Says};
 ghost use Rattle.nbt_store.specs.Words.{SpellsHost, kind_word, none_further};
@@ -25,98 +26,104 @@ use nbt_name::{Addr, Kind, Name};
 use nbt_text::{end_line, write_address, write_hexadecimal, write_name};
 use std::alloc::{AllocError, Global};
 
-/// Appends the line of a change, with its line feed. If out of memory, only a part may be appended.
-pub fn write_change(alloc: Global, change: &Change, out: &mut String) -> Result<(), AllocError>
-    ensures { OnOk result ((line : List ℕ) × IsRecord line change.now × IsLine line × (string_bytes out.new ≡ string_bytes out.old ++ one_line line)) }
+/// Appends the line of a change behind one with this checksum, with its line feed. Returns its checksum. If out of memory, only a part
+/// may be appended.
+pub fn write_change(
+    alloc: Global,
+    sum: u32,
+    change: &Change,
+    out: &mut String,
+) -> Result<u32, AllocError>
+    ensures { IfOk result (λ next. (line : List ℕ) × IsRecord Three sum line change.now next × IsLine line × (string_bytes out.new ≡ string_bytes out.old ++ one_line line)) }
 {
     let mut body = String::new(alloc);
     write_words(change, &mut body)?;
-    write_sealed(&body, out)?;
-    Ok(())
+    write_sealed(sum, &body, out)
 }
 
-/// Appends the line of a lease that began at this time, with its line feed.
+/// Appends the line of a lease that began at this time, with its line feed. Returns its checksum.
 fn write_row(
     alloc: Global,
+    sum: u32,
     row: &(Name, Lease),
     at: u64,
     out: &mut String,
-) -> Result<(), AllocError>
-    ensures { OnOk result ((line : List ℕ) × IsRecord line (changes.Began row.now.0 row.now.1 at) × IsLine line × (string_bytes out.new ≡ string_bytes out.old ++ one_line line)) }
+) -> Result<u32, AllocError>
+    ensures { IfOk result (λ next. (line : List ℕ) × IsRecord Three sum line (changes.Began row.now.0 row.now.1 at) next × IsLine line × (string_bytes out.new ≡ string_bytes out.old ++ one_line line)) }
 {
     let (name, lease) = row;
     let mut body = String::new(alloc);
     write_began(name, *lease, at, &mut body)?;
-    write_sealed(&body, out)?;
-    Ok(())
+    write_sealed(sum, &body, out)
 }
 
 /// Appends a file of these leases, each of which began: the line of the version, that of the header, and one for each
-/// lease. If out of memory, only a part may be appended.
+/// lease. Returns the checksum of the last line. If out of memory, only a part may be appended.
 pub fn write_file(
     alloc: Global,
     header: &Header,
     rows: &[(Name, Lease)],
     out: &mut String,
-) -> Result<(), AllocError>
+) -> Result<u32, AllocError>
     requires { string_bytes out.old ≡ [] }
-    ensures file { OnOk result (IsFile (string_bytes out.new) header.now (begun_all header.now.last rows.now)) }
-    ensures counted { OnOk result (HaveLines (string_bytes out.new) (record { header = header.now; leases = length rows.now }) (begun_all header.now.last rows.now)) }
+    ensures file { IfOk result (IsFile (string_bytes out.new) Three header.now (begun_all header.now.last rows.now)) }
+    ensures counted { IfOk result (HaveLines (string_bytes out.new) Three (record { header = header.now; leases = length rows.now }) (begun_all header.now.last rows.now)) }
     ensures closed { OnOk result (IsClosed (string_bytes out.new)) }
 {
-    write_front(alloc, header, rows.len() as u64, out)?;
+    let mut sum = write_front(alloc, header, rows.len() as u64, out)?;
     for row in rows {
-        write_row(alloc, row, header.last, out)?;
+        sum = write_row(alloc, sum, row, header.last, out)?;
     }
-    Ok(())
+    Ok(sum)
 }
 
-/// Appends the line of the version, and that of the header of a file of so many leases.
+/// Appends the line of the version, and that of the header of a file of so many leases. Returns the checksum of that.
 fn write_front(
     alloc: Global,
     header: &Header,
     leases: u64,
     out: &mut String,
-) -> Result<(), AllocError>
+) -> Result<u32, AllocError>
     requires { string_bytes out.old ≡ [] }
-    ensures lines { OnOk result (HaveLines (string_bytes out.new) (record { header = header.now; leases = leases }) []) }
+    ensures lines { IfOk result (HaveLines (string_bytes out.new) Three (record { header = header.now; leases = leases }) []) }
     ensures closed { OnOk result (IsClosed (string_bytes out.new)) }
 {
     out.push_str("nbt leases, version 3")?;
     end_line(out)?;
-    write_head(alloc, header, leases, out)?;
-    Ok(())
+    write_head(alloc, header, leases, out)
 }
 
-/// Appends the line of the header of a file of so many leases.
+/// Appends the line of the header of a file of so many leases. Returns its checksum.
 fn write_head(
     alloc: Global,
     header: &Header,
     leases: u64,
     out: &mut String,
-) -> Result<(), AllocError>
-    ensures { OnOk result ((line : List ℕ) × IsHead line (record { header = header.now; leases = leases }) × IsLine line × (string_bytes out.new ≡ string_bytes out.old ++ one_line line)) }
+) -> Result<u32, AllocError>
+    ensures { IfOk result (λ next. (line : List ℕ) × IsHead line (record { header = header.now; leases = leases }) next × IsLine line × (string_bytes out.new ≡ string_bytes out.old ++ one_line line)) }
 {
     let mut body = String::new(alloc);
     write_header(header, leases, &mut body)?;
-    write_sealed(&body, out)?;
-    Ok(())
+    write_sealed(0, &body, out)
 }
 
-/// Appends the words of a line, their checksum and a line feed.
-fn write_sealed(body: &String, out: &mut String) -> Result<(), AllocError>
-    ensures { OnOk result (string_bytes out.new ≡ string_bytes out.old ++ one_line (sealed (string_bytes body.now))) }
+/// Appends the words of a line behind one with this checksum, their checksum and a line feed. Returns the checksum.
+fn write_sealed(before: u32, body: &String, out: &mut String) -> Result<u32, AllocError>
+    ensures line { OnOk result (string_bytes out.new ≡ string_bytes out.old ++ one_line (sealed before (string_bytes body.now))) }
+    ensures sum { IfOk result (λ sum. sum ≡ checksum_of before (string_bytes body.now)) }
 {
+    let sum = checksum(before, body.as_bytes());
     out.push_str(body.as_str())?;
     out.push_str(" ")?;
-    write_hexadecimal(checksum(body.as_bytes()).to_be_bytes().as_slice(), out)?;
-    end_line(out)
+    write_hexadecimal(sum.to_be_bytes().as_slice(), out)?;
+    end_line(out)?;
+    Ok(sum)
 }
 
 /// Puts the words of a change.
 fn write_words(change: &Change, out: &mut String) -> Result<(), AllocError>
     requires { string_bytes out.old ≡ [] }
-    ensures says { OnOk result (Says (words_spoken (string_bytes out.new)) change.now) }
+    ensures says { OnOk result (Says Three (words_spoken (string_bytes out.new)) change.now) }
     ensures line { OnOk result (IsLine (string_bytes out.new)) }
 {
     match change {
@@ -136,7 +143,7 @@ fn write_words(change: &Change, out: &mut String) -> Result<(), AllocError>
 /// Puts `began NAME HOST FURTHER KIND END TIME`.
 fn write_began(name: &Name, lease: Lease, at: u64, out: &mut String) -> Result<(), AllocError>
     requires { string_bytes out.old ≡ [] }
-    ensures says { OnOk result (Says (words_spoken (string_bytes out.new)) (changes.Began name.now lease at)) }
+    ensures says { OnOk result (Says Three (words_spoken (string_bytes out.new)) (changes.Began name.now lease at)) }
     ensures line { OnOk result (IsLine (string_bytes out.new)) }
 {
     out.push_str("began")?;
@@ -158,7 +165,7 @@ fn write_moved(
     out: &mut String,
 ) -> Result<(), AllocError>
     requires { string_bytes out.old ≡ [] }
-    ensures says { OnOk result (Says (words_spoken (string_bytes out.new)) (changes.Moved name.now addr end at)) }
+    ensures says { OnOk result (Says Three (words_spoken (string_bytes out.new)) (changes.Moved name.now addr end at)) }
     ensures line { OnOk result (IsLine (string_bytes out.new)) }
 {
     out.push_str("moved")?;
@@ -172,7 +179,7 @@ fn write_moved(
 /// Puts `released NAME HOST TIME`.
 fn write_released(name: &Name, addr: u32, at: u64, out: &mut String) -> Result<(), AllocError>
     requires { string_bytes out.old ≡ [] }
-    ensures says { OnOk result (Says (words_spoken (string_bytes out.new)) (changes.Released name.now addr at)) }
+    ensures says { OnOk result (Says Three (words_spoken (string_bytes out.new)) (changes.Released name.now addr at)) }
     ensures line { OnOk result (IsLine (string_bytes out.new)) }
 {
     out.push_str("released")?;
@@ -185,7 +192,7 @@ fn write_released(name: &Name, addr: u32, at: u64, out: &mut String) -> Result<(
 /// Puts `reached TIME`.
 fn write_reached(at: u64, out: &mut String) -> Result<(), AllocError>
     requires { string_bytes out.old ≡ [] }
-    ensures says { OnOk result (Says (words_spoken (string_bytes out.new)) (changes.Reached at)) }
+    ensures says { OnOk result (Says Three (words_spoken (string_bytes out.new)) (changes.Reached at)) }
     ensures line { OnOk result (IsLine (string_bytes out.new)) }
 {
     out.push_str("reached")?;
@@ -196,7 +203,7 @@ fn write_reached(at: u64, out: &mut String) -> Result<(), AllocError>
 /// Puts `looked DAY TIME`.
 fn write_looked(day: u64, at: u64, out: &mut String) -> Result<(), AllocError>
     requires { string_bytes out.old ≡ [] }
-    ensures says { OnOk result (Says (words_spoken (string_bytes out.new)) (changes.Looked day at)) }
+    ensures says { OnOk result (Says Three (words_spoken (string_bytes out.new)) (changes.Looked day at)) }
     ensures line { OnOk result (IsLine (string_bytes out.new)) }
 {
     out.push_str("looked")?;

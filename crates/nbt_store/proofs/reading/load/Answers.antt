@@ -1,15 +1,16 @@
 use Rattle.std.proofs.Common.{ap}
-use Rattle.nbt_lease.specs.Inner.Index.{members_of}
 use Rattle.std.proofs.lemmas.Result.{err_from_is_err_and}
 use Rattle.nbt_store.proofs.WholeLines.{bad_rest_refused, file_loaded}
 use Rattle.nbt_store.proofs.reading.load.Goals as goal
 
-pub returns-in_err-read_rest-clause-refused : goal.returns-in_err-read_rest-clause-refused
-returns-in_err-read_rest-clause-refused c =
-    let p = err_from_is_err_and c.from_residual-in_err-read_rest.result c.from_residual-in_err-read_rest.ensures.1 in
-    rw (p.1, p.2) (bad_rest_refused c.args.octets.now c.in_ok-head.rest.now c.in_ok-head.head c.in_err-read_rest.field-0.0 c.in_ok-head.ensures.front c.in_err-read_rest.ensures.refused)
+pub returns-in_err-times-clause-refused : goal.returns-in_err-times-clause-refused
+returns-in_err-times-clause-refused c =
+    let p = err_from_is_err_and c.from_residual-in_err-times.result c.from_residual-in_err-times.ensures.1 in
+    let f = c.in_ok-front.front in
+    rw (p.1, p.2) (bad_rest_refused c.args.octets.now f.rest.now f.form f.head f.sum c.in_err-times.field-0.0 c.in_ok-front.ensures.front c.in_err-times.ensures.refused)
 
 pub returns-clause-loaded : goal.returns-clause-loaded
 returns-clause-loaded c =
-    let read = c.in_ok-read_rest.ensures.changes in
-    file_loaded c.args.octets.now c.in_ok-head.rest.now c.in_ok-head.head read.0 c.read_rest.new.members.entries _ c.in_ok-rows.rows.items c.in_ok-head.ensures.front read.1 read.2 read.3 (ap members_of c.new-members.ensures.empty) c.in_ok-read_rest.ensures.names c.in_ok-rows.ensures
+    let read = c.in_ok-times.ensures.changes in
+    let f = c.in_ok-front.front in
+    file_loaded c.args.octets.now f.rest.now f.form f.head read.0 f.sum read.1 c.read_rest.new.members.entries c.in_ok-times.times c.in_ok-rows.rows.items c.in_ok-front.ensures.front read.2 read.3 read.4 read.5 c.in_ok-times.ensures.names c.in_ok-rows.ensures

@@ -9,7 +9,7 @@ use Rattle.nbt_store.proofs.reading.read_changes.Given as goal
 
 abbrev pub invariant-lines : goal.invariant-lines
 invariant-lines l = record {
-  so_far : HaveRead (whole_lines l.octets) (whole_lines l.rest) (members_of l.fn.members.entries) (members_of l.members.entries) l.count;
+  so_far : HaveRead l.form l.fn.first.sum l.fn.first.times (whole_lines l.octets) (whole_lines l.rest) (members_of l.members.entries) l.now;
   names : IsDistinct same_name (keys_of l.members.entries);
 }
 

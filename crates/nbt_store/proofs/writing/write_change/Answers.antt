@@ -1,10 +1,6 @@
-use Rattle.std.proofs.Common.{refl}
 use Rattle.std.specs.String.{string_bytes}
-use Rattle.nbt_store.specs.Checksum.{sealed}
-use Rattle.nbt_store.proofs.Seals.{sealed_line}
+use Rattle.nbt_store.proofs.Written.{record_put}
 use Rattle.nbt_store.proofs.writing.write_change.Goals as goal
 
 pub returns : goal.returns
-returns c =
-    let body = string_bytes c.write_words.new.out in
-    (sealed body, record { body = body; line_is = refl; words_say = c.in_ok-write_words.ensures.says }, sealed_line body c.in_ok-write_words.ensures.line, c.in_ok-write_sealed.ensures)
+returns c = record_put c.args.sum (string_bytes c.write_words.new.out) (string_bytes c.args.out.now) (string_bytes c.write_sealed.new.out) c.args.change.now c.write_sealed.result c.in_ok-write_words.ensures.says c.in_ok-write_words.ensures.line c.write_sealed.ensures.line c.write_sealed.ensures.sum
