@@ -14,14 +14,16 @@ use Rattle.nbt_resume.specs.declared.resuming.Decided.TheVariants.{Goes, Silent}
 pub record GoesOn (f : Found) (going : Going) (b : Begun) : Type 0 where
   pub server_is : b.server ≡ going.server
   pub start_is : b.start ≡ going.start
-  pub header_is : b.header ≡ header_of f.config f.boot.now going.ahead going.start going.server.last f.day
+  pub reads_is : b.reads ≡ going.reads
+  pub header_is : b.header ≡ header_of f.config f.seen.boot.now going.ahead going.start going.reads f.seen.day
   pub no_reason : b.reason ≡ None
 
 -- One that begins anew has no lease, and its clock is the machine's.
 pub record BeginsAnew (f : Found) (reason : Reason) (b : Begun) : Type 0 where
-  pub starts : ServerStarts f.config f.monotonic b.server
-  pub start_is : b.start ≡ f.monotonic
-  pub header_is : b.header ≡ header_of f.config f.boot.now 0 f.monotonic f.monotonic f.day
+  pub starts : ServerStarts f.config f.seen.monotonic b.server
+  pub start_is : b.start ≡ f.seen.monotonic
+  pub reads_is : b.reads ≡ f.seen.monotonic
+  pub header_is : b.header ≡ header_of f.config f.seen.boot.now 0 f.seen.monotonic f.seen.monotonic f.seen.day
   pub reason_is : b.reason ≡ Some reason
 
 abbrev pub IsBegun : Found → Decided → Begun → Type 0

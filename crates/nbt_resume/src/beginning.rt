@@ -12,11 +12,13 @@ use std::alloc::{AllocError, Global};
 /// A server that begins, and keeps its leases.
 #[derive(Drop)]
 pub struct Begun {
-    /// The server: its last time is now.
+    /// The server: its last time is the one from which on it serves.
     pub server: Server,
     /// When it first began, before its silence.
     pub start: Moment,
-    /// The header of the file that is to have its leases.
+    /// What its clock reads now.
+    pub reads: Moment,
+    /// The header of the file that is to have its leases: its last time is what the server's clock reads now.
     pub header: Header,
     /// Why it begins anew, without leases; `None` where it goes on.
     pub reason: Option<Reason>,
@@ -34,29 +36,33 @@ pub fn begin(alloc: Global, found: &Found<'_>) -> Result<Begun, AllocError>
 fn begun_of(alloc: Global, found: &Found<'_>, decided: Decided) -> Begun
     ensures { IsBegun found.now decided result }
 {
-    let day = found.day.get();
-    let boot = copy_of(found.boot);
+    let seen = &found.seen;
+    let day = seen.day.get();
+    let boot = copy_of(seen.boot);
     match decided {
         Decided::Goes(
             Going {
                 server,
                 start,
+                reads,
                 ahead,
             },
         ) => {
-            let header = Header::new(found.config, boot, ahead, start, server.last(), day);
+            let header = Header::new(found.config, boot, ahead, start, reads, day);
             Begun {
                 server,
                 start,
+                reads,
                 header,
                 reason: None,
             }
         }
         Decided::Silent(reason) => {
-            let start = found.monotonic;
+            let start = seen.monotonic;
             Begun {
                 server: Server::start(alloc, found.config, start),
                 start,
+                reads: start,
                 header: Header::new(found.config, boot, 0, start, start, day),
                 reason: Some(reason),
             }

@@ -1,15 +1,16 @@
 //! Whether a lease that was kept outlasts the silence of a server that begins anew.
 
-ghost use Rattle.std.specs.Prelude.{◌≡◌, ◌<◌, ◌≤◌, ◌↔◌, ◌⊎◌, Any, IsTrue, IfOk, Ok};
+ghost use Rattle.std.specs.Prelude.{◌≡◌, ◌<◌, ◌≤◌, ◌↔◌, ◌⊎◌, Any, IsTrue, IfOk};
 ghost use Rattle.nbt_store.specs.declared.fault.Fault.{Fault as FaultSeen};
 ghost use Rattle.nbt_store.specs.declared.fault.ReadFault.TheVariants as read;
-ghost use Rattle.nbt_resume.specs.Outlasting.{ahead_now, silent_until, speaks_anew, with_limits, MayHaveLost, OutlastsAs, OutlastsWith};
+ghost use Rattle.nbt_store.specs.Silence.{IsInTime};
+ghost use Rattle.nbt_resume.specs.Outlasting.{silent_until, speaks_anew, with_limits, MayHaveLost, OutlastsAs, OutlastsWith};
 
 use crate::beginning::copy_of;
 use crate::resuming::Found;
 use nbt_lease::{Config, Lease};
 use nbt_name::Name;
-use nbt_store::{Header, Loaded, ReadFault, load, load_header, why_silent};
+use nbt_store::{Header, Loaded, Onward, ReadFault, load, load_header, why_silent};
 use std::alloc::{AllocError, Global};
 
 /// The milliseconds of a second.
@@ -17,8 +18,8 @@ const SECOND: u64 = 1_000;
 
 /// Whether a lease of what is found may end after the silence of a server that begins anew now, with the limits of `found`: such a
 /// server could grant its name to another while it lives. It is said only of what was kept under a longer longest lease: where a lease
-/// ends later; where the silence of the server that kept it does, since what was leased before that is in no file; where the time since
-/// the file was written isn't known; and where the file can't be loaded, but its header can, since a lease of it may be lost. Refused
+/// ends later; where the silence of the server that kept it does, since what was leased before that is in no file; where no clock goes on
+/// with the file; and where the file can't be loaded, but its header can, since a lease of it may be lost. Refused
 /// where it is out of memory.
 pub fn outlasts(alloc: Global, found: &Found<'_>) -> Result<bool, AllocError>
     ensures { IfOk result (OutlastsAs found.now) }
@@ -64,9 +65,9 @@ fn was_longer(found: &Found<'_>, header: &Header) -> bool
     u64::from(found.config.longest()) < header.longest
 }
 
-/// The same, with the header and the leases that were loaded.
+/// The same, with what was loaded.
 fn outlasts_with(found: &Found<'_>, loaded: &Loaded) -> bool
-    ensures { OutlastsWith found.now loaded.now.header loaded.now.rows.items result }
+    ensures { OutlastsWith found.now loaded.now.form loaded.now.header loaded.now.times loaded.now.rows.items result }
 {
     if loaded.header.longest <= u64::from(found.config.longest()) {
         return false;
@@ -77,13 +78,18 @@ fn outlasts_with(found: &Found<'_>, loaded: &Loaded) -> bool
 /// The same, where the longest lease was longer.
 fn outlasts_by_time(found: &Found<'_>, loaded: &Loaded) -> bool
     requires { found.now.config.longest < loaded.now.header.longest }
-    ensures { OutlastsWith found.now loaded.now.header loaded.now.rows.items result }
+    ensures { OutlastsWith found.now loaded.now.form loaded.now.header loaded.now.times loaded.now.rows.items result }
 {
     let header = with_limits(found.config, &loaded.header);
-    let monotonic = found.monotonic.get();
-    let day = found.day.get();
-    match why_silent(&header, found.config, found.boot, monotonic, day, false) {
-        Ok(ahead) => outlasts_at(loaded, speaks_anew(found, loaded, ahead)),
+    match why_silent(
+        loaded.form,
+        &header,
+        &loaded.times,
+        found.config,
+        &found.seen,
+        false,
+    ) {
+        Ok(onward) => outlasts_at(loaded, speaks_anew(found, loaded, onward)),
         Err(_why) => true,
     }
 }
@@ -104,13 +110,13 @@ fn with_limits(config: Config, header: &Header) -> Header
     }
 }
 
-/// When the silence of a server ends that begins anew now, by a clock that is so much ahead.
-fn speaks_anew(found: &Found<'_>, loaded: &Loaded, ahead: u64) -> u64
-    requires { ahead_now found.now loaded.now.header ≡ Ok ahead }
-    ensures speaks { result ≡ speaks_anew found.now ahead }
+/// When the silence of a server ends that begins anew now, by the clock of the file as it was.
+fn speaks_anew(found: &Found<'_>, loaded: &Loaded, onward: Onward) -> u64
+    requires { IsInTime loaded.now.header loaded.now.times found.now.seen onward }
+    ensures speaks { result ≡ speaks_anew found.now onward }
     ensures begun { loaded.now.header.start ≤ result }
 {
-    found.monotonic.get() + ahead + SECOND * u64::from(found.config.longest())
+    onward.reads - onward.shift + SECOND * u64::from(found.config.longest())
 }
 
 /// Whether a lease may end after this time: one that was loaded, or one from before the silence of the server that kept it.

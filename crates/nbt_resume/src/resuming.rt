@@ -1,14 +1,14 @@
 //! Whether a server that starts goes on with what was kept.
 
-ghost use Rattle.std.specs.Prelude.{◌≡◌, ◌<◌, ◌≤◌, ◌↔◌, Any, IsTrue, IfOk, Ok};
+ghost use Rattle.std.specs.Prelude.{◌≡◌, ◌≤◌, ◌↔◌, IsTrue, IfOk};
 ghost use Rattle.nbt_lease.specs.Config.{last_moment};
-ghost use Rattle.nbt_store.specs.Silence.{going_on};
-ghost use Rattle.nbt_resume.specs.Resuming.{GoesOnWith, IsRecent, IsRefusal, ResumesAs, ResumesAt};
+ghost use Rattle.nbt_store.specs.Silence.{IsInTime};
+ghost use Rattle.nbt_resume.specs.Resuming.{GoesOnWith, IsRecent, IsRefusal, ResumesAs, ResumesOn, later_row, later_rows as later_rows_by};
 
 use nbt_lease::{Config, Lease, Moment};
 use nbt_name::Name;
 use nbt_server::{ResumeFault, Server};
-use nbt_store::{Boot, Fault, Loaded, ReadFault, Silence, load, why_silent};
+use nbt_store::{Fault, Loaded, Onward, ReadFault, Seen, Silence, load, why_silent};
 use std::alloc::{AllocError, Global};
 
 /// The milliseconds of a second.
@@ -21,13 +21,9 @@ pub struct Found<'a> {
     pub kept: Option<&'a [u8]>,
     /// Its limits.
     pub config: Config,
-    /// The boot of its machine.
-    pub boot: &'a Boot,
-    /// The machine's monotonic clock, in ms.
-    pub monotonic: Moment,
-    /// The time of day, in ms since 1970.
-    pub day: Moment,
-    /// Whether it is silent after another boot.
+    /// The boot of its machine, and what the clocks show.
+    pub seen: Seen<'a>,
+    /// Whether it is silent after another boot, and where the clocks went apart.
     pub silent_after_boot: bool,
 }
 
@@ -38,13 +34,13 @@ pub enum Reason {
     Nothing,
     /// What was kept is no file of a store.
     File(Fault),
-    /// It was kept under other limits, or the time since then isn't known.
+    /// It was kept under other limits, or no clock goes on with it.
     Other(Silence),
     /// More leases live than the limits allow.
     Full,
     /// The leases are none that a server has.
     Unsound,
-    /// No lease lives, and the longest lease has passed since the file was written.
+    /// The longest lease has passed since the last time of the file: another server may have served since.
     Over,
 }
 
@@ -64,17 +60,19 @@ pub struct Going {
     pub server: Server,
     /// When it first began, before its silence.
     pub start: Moment,
+    /// What its clock reads at the start. It serves from the server's last time on.
+    pub reads: Moment,
     /// By how many milliseconds its clock is ahead of the machine's monotonic clock.
     pub ahead: u64,
 }
 
-/// Decides whether a server goes on with what was kept, with the leases of it that live now, or is silent for its longest lease.
-/// The first reason counts: nothing was kept; the octets are no file of a store, as [`load`] says; the header isn't of these
-/// limits, or its time isn't known now, as [`why_silent`] says; none of the leases lives, and the longest lease has passed since
-/// the file was written; the leases aren't restored, as [`Server::resume`] says. Refused where it is out of memory.
+/// Decides whether a server goes on with what was kept, with the leases of it that live when it serves, or is silent for its longest
+/// lease. The first reason counts: nothing was kept; the octets are no file of a store, as [`load`] says; the header isn't of these
+/// limits, or no clock goes on with it, as [`why_silent`] says; the longest lease has passed since the last time of the file, by the
+/// clock that shows the most; the leases aren't restored, as [`Server::resume`] says. Refused where it is out of memory.
 ///
-/// That all is over is a reason against an old file: what is younger than the longest lease was kept by a server after which no
-/// other that began anew can have granted anything yet.
+/// That so much time has passed is a reason against an old file: what is younger was kept by a server after which no other that began
+/// anew can have granted anything yet, since it is silent for as long.
 pub fn resume(alloc: Global, found: &Found<'_>) -> Result<Decided, AllocError>
     ensures { IfOk result (ResumesAs found.now) }
 {
@@ -97,54 +95,80 @@ fn refused_as(why: ReadFault) -> Result<Decided, AllocError>
     }
 }
 
-/// The same, with the header and the leases that were loaded.
+/// The same, with what was loaded.
 fn resume_with(alloc: Global, found: &Found<'_>, loaded: &Loaded) -> Result<Decided, AllocError>
-    ensures { IfOk result (GoesOnWith found.now loaded.now.header loaded.now.rows.items) }
+    ensures { IfOk result (GoesOnWith found.now loaded.now.form loaded.now.header loaded.now.times loaded.now.rows.items) }
 {
-    let monotonic = found.monotonic.get();
-    let day = found.day.get();
-    let silent = found.silent_after_boot;
     match why_silent(
+        loaded.form,
         &loaded.header,
+        &loaded.times,
         found.config,
-        found.boot,
-        monotonic,
-        day,
-        silent,
+        &found.seen,
+        found.silent_after_boot,
     ) {
-        Ok(ahead) => resume_at(alloc, found, loaded, ahead),
+        Ok(onward) => resume_on(alloc, found, loaded, onward),
         Err(why) => Ok(Decided::Silent(Reason::Other(why))),
     }
 }
 
-/// The same, by a clock that is so many milliseconds ahead.
-fn resume_at(
+/// The same, by this clock.
+fn resume_on(
     alloc: Global,
     found: &Found<'_>,
     loaded: &Loaded,
-    ahead: u64,
+    onward: Onward,
 ) -> Result<Decided, AllocError>
-    requires { going_on loaded.now.header found.now.config found.now.boot.now found.now.monotonic found.now.day found.now.silent_after_boot ≡ Ok ahead }
-    ensures { IfOk result (ResumesAt found.now loaded.now.header loaded.now.rows.items ahead) }
+    requires { IsInTime loaded.now.header loaded.now.times found.now.seen onward }
+    ensures { IfOk result (ResumesOn found.now loaded.now.header loaded.now.times loaded.now.rows.items onward) }
 {
-    let now = moment_of(found.monotonic.get() + ahead);
-    let start = moment_of(loaded.header.start);
-    let last = moment_of(loaded.header.last);
-    let rows = loaded.rows.as_slice();
-    if !is_recent(found.config, last, rows, now) {
+    if !is_recent(found.config, onward) {
         return Ok(Decided::Silent(Reason::Over));
     }
-    match Server::resume(alloc, found.config, start, last, now, rows) {
+    let rows = later_rows(alloc, loaded.rows.as_slice(), onward.shift)?;
+    let start = moment_of(loaded.header.start + onward.shift);
+    let last = moment_of(loaded.times.last + onward.shift);
+    let now = moment_of(onward.serves);
+    match Server::resume(alloc, found.config, start, last, now, rows.as_slice()) {
         Ok(server) => Ok(Decided::Goes(Going {
             server,
             start,
-            ahead,
+            reads: moment_of(onward.reads),
+            ahead: onward.ahead,
         })),
-        Err(ResumeFault::ClockBack) => Ok(Decided::Silent(Reason::Other(Silence::ClockBack))),
+        Err(ResumeFault::ClockBack) => Ok(Decided::Silent(Reason::Other(Silence::BadTimes))),
         Err(ResumeFault::TableFull) => Ok(Decided::Silent(Reason::Full)),
         Err(ResumeFault::Unsound) => Ok(Decided::Silent(Reason::Unsound)),
         Err(ResumeFault::OutOfMemory) => Err(AllocError),
     }
+}
+
+/// The leases, each of which ends so much later, and no later than 2^64 - 1.
+fn later_rows(
+    alloc: Global,
+    rows: &[(Name, Lease)],
+    by: u64,
+) -> Result<Vec<(Name, Lease)>, AllocError>
+    ensures { IfOk result (λ later. later.items ≡ later_rows_by by rows.now) }
+{
+    let mut later = Vec::new(alloc);
+    for row in rows {
+        later.push(later_row(row, by))?;
+    }
+    Ok(later)
+}
+
+/// The lease, which ends so much later, and no later than 2^64 - 1.
+fn later_row(row: &(Name, Lease), by: u64) -> (Name, Lease)
+    ensures { result ≡ later_row by row.now }
+{
+    let (name, lease) = row;
+    let lease = Lease {
+        addr: lease.addr,
+        kind: lease.kind,
+        end: lease.end.saturating_add(by),
+    };
+    (name.copy(), lease)
 }
 
 /// A time that a clock can tell.
@@ -155,17 +179,9 @@ fn moment_of(ms: u64) -> Moment
     Moment::new(ms).unwrap()
 }
 
-/// Whether the longest lease hasn't passed since the file was written, or one of its leases lives.
-fn is_recent(config: Config, last: Moment, rows: &[(Name, Lease)], now: Moment) -> bool
-    ensures { IsTrue result ↔ IsRecent config last rows.now now }
+/// Whether the longest lease hasn't passed since the last time of the file.
+fn is_recent(config: Config, onward: Onward) -> bool
+    ensures { IsTrue result ↔ IsRecent config onward }
 {
-    let ends = last.get() + SECOND * u64::from(config.longest());
-    now.get() < ends || has_live(rows, now.get())
-}
-
-/// Whether one of the leases lives at this time.
-fn has_live(rows: &[(Name, Lease)], now: u64) -> bool
-    ensures { IsTrue result ↔ Any (λ row. now < row.1.end) rows.now }
-{
-    rows.iter().any(|row| now < row.1.end)
+    onward.passed < SECOND * u64::from(config.longest())
 }
