@@ -21,7 +21,7 @@ import time
 sys.path.insert(0, f"{os.path.dirname(sys.path[0])}/faults")
 import packets  # noqa: E402
 
-LIFE, LONGEST = "500ms", 20  # the greatest life of a datagram, and the longest lease, in seconds
+LIFE, LONGEST = "500ms", 30  # the greatest life of a datagram, and the longest lease, in seconds
 SERVER, CHECKED = ("127.0.0.1", 1139), ("127.0.0.1", 1140)
 HOSTS, NAMES = 8, 60
 NEAR = 1.0  # for so many seconds around a lease's end nothing is said of it
