@@ -30,6 +30,7 @@ class Restart(NamedTuple):
 
 STEPS = [
     *(Restart(f"the day is set by {step:+g} s, then another boot", running=step) for step in (0.5, 1.5, -1.5, 3, -3, 3600)),
+    *(Restart(f"another boot, over which the day is set by {step:+g} s", between=step) for step in (1.5, -1.5, -3600)),
     *(Restart(f"a clock chip that is {step:+g} s wrong over a boot", between=step) for step in (0.3, -0.3)),
 ]
 STALLS = [
@@ -53,8 +54,7 @@ def twice(granted, end):
 def restart(lab, case):
     """The row of a restart."""
     net, folder, machine = lab.network(), lab.folder(), lab.machine()
-    server = lab.serve(machine, f"{net}.1", folder)
-    time.sleep(LONGEST + 0.5)
+    server = lab.speaking(machine, f"{net}.1", folder)
     host = Host(f"{net}.2", f"{net}.1")
     end = host.ask(packets.REGISTRATION, "FILER", LEASE)
     if not end:
@@ -85,8 +85,7 @@ def late_lock(lab):
     """A second server over one folder whose lock comes 6 s late: the first one grants a lease meanwhile, and ends."""
     what = "a lock that comes 6 s late, while the first server goes on, grants and ends"
     net, folder, machine = lab.network(), lab.folder(), lab.machine()
-    first = lab.serve(machine, f"{net}.1", folder)
-    time.sleep(LONGEST + 0.5)
+    first = lab.speaking(machine, f"{net}.1", folder)
     machine.put(LATE, 6000)
     second = lab.serve(machine, f"{net}.4", folder)
     time.sleep(4.5)
@@ -109,8 +108,7 @@ def suspend(lab):
     """A machine is suspended for longer than LONGEST, and goes on. Another server began anew meanwhile, and granted the name again."""
     what = "a suspend for longer than LONGEST, while another server begins anew and grants the name"
     net, folder, machine, other = lab.network(), lab.folder(), lab.machine(), lab.machine()
-    first = lab.serve(machine, f"{net}.1", folder)
-    time.sleep(LONGEST + 0.5)
+    first = lab.speaking(machine, f"{net}.1", folder)
     host = Host(f"{net}.2", f"{net}.1")
     if not host.ask(packets.REGISTRATION, "FILER"):
         return what, f"no lease: {first.kill()}"
@@ -155,8 +153,7 @@ def move(lab, days, ahead):
     net, folder, home = lab.network(), lab.folder(), lab.machine(60 * DAYS)
     there = lab.machine((60 + days) * DAYS)
     there.step(DAY, ahead)
-    server, wrong = lab.serve(home, f"{net}.1", folder), []
-    time.sleep(LONGEST + 0.5)
+    server, wrong = lab.speaking(home, f"{net}.1", folder), []
     host, other = Holder(Host(f"{net}.2", f"{net}.1"), [f"N{number}" for number in range(5)], 12), Host(f"{net}.3", f"{net}.1")
     rivals = [Contended(name, Rival(Host(f"{net}.{10 + number}", f"{net}.1"), name, 0.1)) for number, name in enumerate(host.ends)]
     short = []

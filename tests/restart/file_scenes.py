@@ -17,14 +17,6 @@ SLACK = 3.0  # seconds within which a server that has to end does, beside a look
 SILENT = r"serving \S+, silent for {} s until \S+, since {}"
 
 
-def speaking(lab, machine=None):
-    """A server whose first silence is over: its network, folder and itself."""
-    net, folder = lab.network(), lab.folder()
-    server = lab.serve(machine, f"{net}.1", folder)
-    time.sleep(LONGEST + 0.5)
-    return net, folder, server
-
-
 def copied(lab, folder, octets):
     """Another folder, with this file of leases."""
     other = lab.folder()
@@ -42,7 +34,8 @@ def file_of(folder):
 
 def lines(lab):
     """Each of ten leases' lines is taken out of the file, and one change follows."""
-    net, folder, server = speaking(lab)
+    net, folder = lab.network(), lab.folder()
+    server = lab.speaking(None, f"{net}.1", folder)
     host = Host(f"{net}.2", f"{net}.1")
     granted = [host.ask(packets.REGISTRATION, name) for name in (*(f"N{number}" for number in range(10)), "LATER")]
     server.kill()
@@ -112,10 +105,11 @@ def over_a_boot(lab, machine, folder):
 
 def idle(lab):
     """A server that nobody asks for longer than LONGEST after its silence, and that starts again."""
-    machine = lab.machine()
-    net, folder, server = speaking(lab, machine)
-    begun = time.monotonic() - LONGEST - 0.5
-    time.sleep(LONGEST + LOOK)
+    machine, net, folder = lab.machine(), lab.network(), lab.folder()
+    server = lab.serve(machine, f"{net}.1", folder)
+    server.line()
+    begun = time.monotonic()
+    time.sleep(2 * LONGEST + LOOK)
     server.kill()
     octets, waited = file_of(folder), time.monotonic() - begun
     now, _ = machine.times()
@@ -132,6 +126,24 @@ def idle(lab):
     machine.boot(8)
     line = lab.serve(machine, f"{net}.4", other).line()
     yield "an idle server starts again after a boot", "" if is_kept(line, 0) else f"it says {line!r}"
+
+
+def reached(lab):
+    """A server that answers questions, and whose leases nobody changes: no answer leaves more than a second past the file's last time."""
+    machine, net, folder = lab.machine(), lab.network(), lab.folder()
+    server, seconds = lab.speaking(machine, f"{net}.1", folder), 5
+    host, until, answered = Host(f"{net}.2", f"{net}.1"), time.monotonic() + seconds, 0
+    while time.monotonic() < until:
+        if host.holders("FILER") is not None:
+            answered, _ = machine.times()
+        time.sleep(0.05)
+    server.kill()
+    octets = file_of(folder)
+    times = [int(words[-1]) for words in leases.lines_of(octets)[1:]]
+    many = [moment for moment in times if moment > answered - 1000 * seconds]
+    what = f"a server that is asked for {seconds} s writes how far its clock came, {len(many)} times"
+    wrong = not answered or not times or answered - max(times) > 1100 or len(many) > seconds + 1
+    return what, f"the last answer came at {answered}: {octets.decode()!r}" if wrong else ""
 
 
 def away(folder):
@@ -208,7 +220,8 @@ WAYS = {  # what a host does, once, and within how many seconds the server has t
 def move(lab, how, way):
     """The row of a folder that is moved so while its server runs, and while a host does this."""
     what = f"a folder that is {how} while a host {way}: the server ends, and writes nothing there"
-    net, folder, server = speaking(lab)
+    net, folder = lab.network(), lab.folder()
+    server = lab.speaking(None, f"{net}.1", folder)
     host = Host(f"{net}.2", f"{net}.1")
     if not host.ask(packets.REGISTRATION, "FILER"):
         return what, f"no lease: {server.kill()}"
@@ -256,5 +269,6 @@ def scenes(lab):
         "lock": [lambda: list(lock(lab))],
         "folders": [lambda how=how, way=way: [move(lab, how, way)] for how, way in moved],
         "idle": [lambda: list(idle(lab))],
+        "reached": [lambda: [reached(lab)]],
         "older_version": [lambda: older_version(lab)],
     }

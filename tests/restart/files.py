@@ -28,13 +28,14 @@ HOUR = 3_600_000  # milliseconds
 OTHERS = (0x0A, 0x20, 0x00, 0xFF)  # what an octet is changed to, beside one that differs from it in a bit
 PATIENCE = 0.03  # for how many seconds a reply is waited for that mustn't come
 NOW, LATER = "it goes on", "it goes on after a second"
+WAIT = 0.5  # seconds after the first line within which no reply comes then: the second counts from the reading of the clocks
 LAST_MOMENT = 1 << 60  # milliseconds: no clock of a server goes beyond
 KEPT = re.compile(rb"^serving \S+, with ([0-9]+) leases? kept(, silent for 1 s until \S+)?\n$")
 SILENT = re.compile(rb"^serving \S+, silent for .*, since (.*)\n$")
 
 
 class Start:
-    """What a server did over a file: its first line, the reply to the request for FILER, and the files afterwards."""
+    """What a server did over a file: its first line, the reply to the request for FILER, when both came, and the files afterwards."""
 
     def __init__(self, nbt, longest, port, octets):
         self.octets = octets
@@ -44,6 +45,7 @@ class Start:
         words = ["nbns", "--bind", f"127.0.0.1:{port}", "--life", "500ms", "--longest", longest, "--state", folder, "--rows-per-client", "4096"]
         with subprocess.Popen([nbt, *words], stdout=subprocess.PIPE, stderr=subprocess.STDOUT) as server:
             self.line = server.stdout.readline()
+            self.begun = self.came = time.monotonic()
             self.reply = self.asked(port) if self.line.startswith(b"serving ") else b""
             server.kill()
         bad = f"{folder}/leases.bad"
@@ -59,7 +61,9 @@ class Start:
             for _ in range(10 if KEPT.match(self.line) else 1):
                 asking.sendto(octets, ("127.0.0.1", port))
                 try:
-                    return asking.recv(600)
+                    reply = asking.recv(600)
+                    self.came = time.monotonic()
+                    return reply
                 except TimeoutError:
                     pass
         return b""
@@ -176,10 +180,12 @@ def files_of(good):
 
 
 def reasoned(start, does, rows):
-    """Whether it did that: it went on with so many leases, or was silent for this reason. Of many leases none is FILER's."""
+    """Whether it did that: it went on with so many leases, at once or after a second, or was silent for this reason. Of many leases
+    none is FILER's."""
     if does not in (NOW, LATER):
         return start.is_silent(does)
-    return start.kept() == (rows, does) and (rows > 3 or start.is_refused())
+    is_late = does == NOW or start.came - start.begun > WAIT
+    return start.kept() == (rows, does) and is_late and (rows > 3 or start.is_refused())
 
 
 def row(what, starts, is_well):

@@ -73,6 +73,7 @@ def kills(lab, seed=None):
     longest = least(lab.nbt, f"{net}.9")
     what = f"{KILLS} kills at the least LONGEST, {longest} s, seed {seed}: "
     server = lab.serve(None, f"{net}.1", folder, longest=longest)
+    server.line()
     time.sleep(longest)
     hosts = Hosts(lab, net, longest)
     time.sleep(5)

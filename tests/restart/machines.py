@@ -25,7 +25,7 @@ LONGEST = 30  # seconds: the least that is accepted
 STEADY, DAY, READING, STALL, LATE = range(5)  # the numbers of clocks.c
 NUMBERS = 8 * 5  # their octets
 PACE = 0.02  # seconds between two requests of a rival
-SOON = 5.0  # for how many seconds a first line is waited for
+SOON = 20.0  # for how many seconds at most a first line is waited for
 
 
 def hold(seconds):
@@ -223,6 +223,13 @@ class Lab:
         server = Server(self.nbt, machine, address, folder, **limits)
         with self.lock:
             self.servers.append(server)
+        return server
+
+    def speaking(self, machine, address, folder):
+        """A server over an empty folder, whose silence is over."""
+        server = self.serve(machine, address, folder)
+        server.line()
+        time.sleep(LONGEST + 0.3)
         return server
 
     def end(self):
