@@ -173,7 +173,8 @@ def files_of(good):
         ("of another boot", forged(good, **other, day=-50), LATER),
         ("of another boot, an hour later by the time of day", forged(good, **other, day=HOUR), LATER),
         ("of another boot, an hour before", forged(good, **other, day=-HOUR), "the kept leases are over"),
-        ("of a time beyond all", forged(good, last=LAST_MOMENT, later=LAST_MOMENT), "clock past all times"),
+        ("of a time beyond all", forged(good, last=LAST_MOMENT, later=LAST_MOMENT), "times that no server keeps"),
+        ("of a server that begins an hour later", forged(good, start=HOUR), "times that no server keeps"),
         ("of as many leases as there are rows", with_many(good, 4096), NOW),
         ("of one lease more", with_many(good, 4097), "more leases than rows"),
     ]
