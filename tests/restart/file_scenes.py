@@ -259,6 +259,21 @@ def lock(lab):
         stays = open(elsewhere).read() == "a line\n" if there else not os.path.exists(elsewhere)
         wrong = "" if status == 3 and stays and "serving" not in said else f"status {status}, after {said!r}"
         yield f"a lock that is a link to {what} isn't followed", wrong
+    for text, serves in (("a line\n", False), ("# lock of nbt nbns\n", True)):
+        net, folder = lab.network(), lab.folder()
+        with open(f"{folder}/lock", "w") as file:
+            file.write(text)
+        os.chmod(f"{folder}/lock", 0o644)
+        server = lab.serve(None, f"{net}.1", folder)
+        line, status = server.line(), server.status(0 if serves else SLACK)
+        server.kill()
+        stays, mode = open(f"{folder}/lock").read() == text, stat.S_IMODE(os.stat(f"{folder}/lock").st_mode)
+        if serves:
+            is_right = stays and line.startswith("serving ") and mode == 0o600
+            yield "a lock that an older server left is used, and is its owner's alone then", "" if is_right else f"{mode:o}, after {line!r}"
+        else:
+            is_right = stays and not line.startswith("serving ") and status == 3
+            yield "a file of somebody else in the place of the lock stays", "" if is_right else f"status {status}, after {line!r}"
 
 
 def scenes(lab):
