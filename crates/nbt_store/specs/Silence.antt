@@ -15,10 +15,13 @@ use Rattle.nbt_store.specs.declared.times.Times.{Times}
 abbrev pub unseen : ℕ
 unseen = 1000
 
--- The times are those of a server: it began no later than the last of them, the time of day was read no later, and a clock can show all of
--- them and a second more.
+-- clocks can show all times and a second more
+abbrev pub can_be_told : Header → Times → Seen → Bool
+can_be_told h t s = nat_le (t.last + unseen) last_moment && (nat_le h.ahead last_moment && nat_le (s.monotonic + unseen) last_moment)
+
+-- The times are those of a server: it began no later than the last of them, the time of day was read no later, and clocks can show them.
 abbrev pub has_sound_times : Header → Times → Seen → Bool
-has_sound_times h t s = (nat_le h.start t.last && nat_le t.seen t.last) && (nat_le (t.last + unseen) last_moment && nat_le (s.monotonic + unseen) last_moment)
+has_sound_times h t s = (nat_le h.start t.last && nat_le t.seen t.last) && can_be_told h t s
 
 -- From one reading of both clocks to another they went on by the same, within 200 ms and a thousandth.
 abbrev pub bears_out : (time day new_time new_day : ℕ) → Bool
@@ -34,24 +37,28 @@ is_same_clock h t s = (bytes_eq h.boot s.boot.now && nat_le t.last (s.monotonic 
 abbrev pub passed_since : Times → Seen → ℕ
 passed_since t s = (s.day + (s.monotonic - s.before)) - (t.day + (t.last - t.seen))
 
+-- The same by the clock that shows the most: in the boot of the file the machine's clock shows it too.
+abbrev pub passed_at_most : Header → Times → Seen → ℕ
+passed_at_most h t s = if bytes_eq h.boot s.boot.now then max (s.monotonic + h.ahead - t.last) (passed_since t s) else passed_since t s
+
 abbrev pub by_same_clock : Header → Times → Seen → Onward
-by_same_clock h t s = record { shift = 0; ahead = h.ahead; reads = s.monotonic + h.ahead; serves = s.monotonic + h.ahead; passed = max (s.monotonic + h.ahead - t.last) (passed_since t s) }
+by_same_clock h t s = record { shift = 0; ahead = h.ahead; reads = s.monotonic + h.ahead; serves = s.monotonic + h.ahead; passed = passed_at_most h t s }
 
 -- Else the clock goes on from the last time of the file, and where the machine's is further, all times of the file count as so much later.
-abbrev pub by_new_clock : Times → Seen → Onward
-by_new_clock t s = record { shift = s.monotonic - t.last; ahead = t.last - s.monotonic; reads = max t.last s.monotonic; serves = max t.last s.monotonic + unseen; passed = passed_since t s }
+abbrev pub by_new_clock : Header → Times → Seen → Onward
+by_new_clock h t s = record { shift = s.monotonic - t.last; ahead = t.last - s.monotonic; reads = max t.last s.monotonic; serves = max t.last s.monotonic + unseen; passed = passed_at_most h t s }
 
 -- of the older form that isn't known: it has no times of changes
-abbrev pub by_form : Form → Times → Seen → Result Onward Silence
-by_form Two t s = Err why.Older
-by_form Three t s = Ok (by_new_clock t s)
+abbrev pub by_form : Form → Header → Times → Seen → Result Onward Silence
+by_form Two h t s = Err why.Older
+by_form Three h t s = Ok (by_new_clock h t s)
 
 -- The same, unless the server is to be silent then.
 abbrev pub by_other_clock : Form → Header → Times → Seen → (silent_after_boot : Bool) → Result Onward Silence
 by_other_clock form h t s silent_after_boot =
     if silent_after_boot && not (bytes_eq h.boot s.boot.now) then Err why.OtherBoot
     else if silent_after_boot then Err why.Apart
-    else by_form form t s
+    else by_form form h t s
 
 -- By which clock a server goes on with what the header is of; or why it doesn't go on. The first reason counts.
 abbrev pub going_on : Form → Header → Times → ConfigValue → Seen → (silent_after_boot : Bool) → Result Onward Silence

@@ -65,7 +65,7 @@ pub fn changes_go_in_turn()
 /// and is as much ahead of the machine's clock. The server serves by it only when it reads no less than any time at which the one that
 /// kept the file may have served: a second more than that last time.
 pub fn a_new_clock_begins_at_the_last_time()
-    ensures last { (times : Times) (seen : Seen) → (by_new_clock times seen).reads ≡ times.last + (by_new_clock times seen).shift }
-    ensures machine { (times : Times) (seen : Seen) → (by_new_clock times seen).reads ≡ seen.monotonic + (by_new_clock times seen).ahead }
-    ensures served { (times : Times) (seen : Seen) (was : ℕ) → was ≤ times.last + unseen → was + (by_new_clock times seen).shift ≤ (by_new_clock times seen).serves }
+    ensures last { (h : Header) (times : Times) (seen : Seen) → (by_new_clock h times seen).reads ≡ times.last + (by_new_clock h times seen).shift }
+    ensures machine { (h : Header) (times : Times) (seen : Seen) → (by_new_clock h times seen).reads ≡ seen.monotonic + (by_new_clock h times seen).ahead }
+    ensures served { (h : Header) (times : Times) (seen : Seen) (was : ℕ) → was ≤ times.last + unseen → was + (by_new_clock h times seen).shift ≤ (by_new_clock h times seen).serves }
 {}

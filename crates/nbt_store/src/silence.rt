@@ -3,7 +3,7 @@
 ghost use Rattle.std.specs.Prelude.{◌≡◌, ◌≤◌, ◌+◌, IfOk};
 ghost use Rattle.nbt_lease.specs.Config.{last_moment};
 ghost use Rattle.nbt_store.specs.Numbers.{silence_number};
-ghost use Rattle.nbt_store.specs.Silence.{IsInTime, bears_out as bears_it_out, by_new_clock as new_clock, by_other_clock as other_clock, by_same_clock as same_clock, going_on, has_sound_times as sound_times, is_same_clock as is_same, passed_since as passed};
+ghost use Rattle.nbt_store.specs.Silence.{IsInTime, bears_out as bears_it_out, by_new_clock as new_clock, by_other_clock as other_clock, by_same_clock as same_clock, can_be_told, going_on, has_sound_times as sound_times, is_same_clock as is_same, passed_at_most as most_passed, passed_since as passed};
 
 use crate::boot::Boot;
 use crate::form::Form;
@@ -133,9 +133,16 @@ pub fn why_silent(
 fn has_sound_times(header: &Header, times: &Times, seen: &Seen<'_>) -> bool
     ensures { result ≡ sound_times header.now times.now seen.now }
 {
-    header.start <= times.last
-        && times.seen <= times.last
-        && (times.last.saturating_add(SECOND) <= LAST && seen.monotonic.get() + SECOND <= LAST)
+    header.start <= times.last && times.seen <= times.last && can_be_told(header, times, seen)
+}
+
+/// Whether clocks can show all times of the file and a second more.
+fn can_be_told(header: &Header, times: &Times, seen: &Seen<'_>) -> bool
+    ensures { result ≡ can_be_told header.now times.now seen.now }
+{
+    times.last.saturating_add(SECOND) <= LAST
+        && header.ahead <= LAST
+        && seen.monotonic.get() + SECOND <= LAST
 }
 
 /// Whether the clock of the file goes on in this boot, and the time of day bears it out.
@@ -170,10 +177,25 @@ fn passed_since(times: &Times, seen: &Seen<'_>) -> u64
     now.saturating_sub(times.day.saturating_add(times.last - times.seen))
 }
 
+/// The same by the clock that shows the most: in the boot of the file the machine's clock shows it too.
+fn passed_at_most(header: &Header, times: &Times, seen: &Seen<'_>) -> u64
+    requires known { times.now.seen ≤ times.now.last }
+    requires fits { header.now.ahead ≤ last_moment }
+    ensures { result ≡ most_passed header.now times.now seen.now }
+{
+    let by_day = passed_since(times, seen);
+    if header.boot.octets() != seen.boot.octets() {
+        return by_day;
+    }
+    let reads = seen.monotonic.get() + header.ahead;
+    by_day.max(reads.saturating_sub(times.last))
+}
+
 /// The clock of the file, which goes on.
 fn by_same_clock(header: &Header, times: &Times, seen: &Seen<'_>) -> Onward
     requires begun { header.now.start ≤ times.now.last }
     requires known { times.now.seen ≤ times.now.last }
+    requires ahead { header.now.ahead ≤ last_moment }
     requires further { times.now.last ≤ seen.now.monotonic + header.now.ahead }
     requires fits { seen.now.monotonic + header.now.ahead ≤ last_moment }
     ensures value { result ≡ same_clock header.now times.now seen.now }
@@ -185,7 +207,7 @@ fn by_same_clock(header: &Header, times: &Times, seen: &Seen<'_>) -> Onward
         ahead: header.ahead,
         reads,
         serves: reads,
-        passed: passed_since(times, seen).max(reads - times.last),
+        passed: passed_at_most(header, times, seen),
     }
 }
 
@@ -199,6 +221,7 @@ fn by_other_clock(
 ) -> Result<Onward, Silence>
     requires begun { header.now.start ≤ times.now.last }
     requires known { times.now.seen ≤ times.now.last }
+    requires ahead { header.now.ahead ≤ last_moment }
     requires fits { times.now.last + 1000 ≤ last_moment }
     requires fits_here { seen.now.monotonic + 1000 ≤ last_moment }
     ensures value { result ≡ other_clock form header.now times.now seen.now silent_after_boot }
@@ -220,9 +243,10 @@ fn by_other_clock(
 fn by_new_clock(header: &Header, times: &Times, seen: &Seen<'_>) -> Onward
     requires begun { header.now.start ≤ times.now.last }
     requires known { times.now.seen ≤ times.now.last }
+    requires ahead { header.now.ahead ≤ last_moment }
     requires fits { times.now.last + 1000 ≤ last_moment }
     requires fits_here { seen.now.monotonic + 1000 ≤ last_moment }
-    ensures value { result ≡ new_clock times.now seen.now }
+    ensures value { result ≡ new_clock header.now times.now seen.now }
     ensures in_time { IsInTime header.now times.now seen.now result }
 {
     let monotonic = seen.monotonic.get();
@@ -232,6 +256,6 @@ fn by_new_clock(header: &Header, times: &Times, seen: &Seen<'_>) -> Onward
         ahead: reads - monotonic,
         reads,
         serves: reads + SECOND,
-        passed: passed_since(times, seen),
+        passed: passed_at_most(header, times, seen),
     }
 }
