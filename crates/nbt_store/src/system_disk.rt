@@ -21,6 +21,9 @@ const LOCK_LINE: &[u8] = b"# lock of nbt nbns\n";
 /// Who may open the file `lock`: its owner alone (our profile). Who can open it can hold its lock.
 const LOCK_MODE: u32 = 0o600;
 
+/// The bits of a mode that say who may do what.
+const MODES: u32 = 0o777;
+
 /// So many octets of it are read at most: more than it says.
 const LOCK_MOST: usize = 64;
 
@@ -83,10 +86,9 @@ impl<'a, R: Files<File = File>> SystemDisk<'a, R> {
         folder: &'a str,
     ) -> io::Result<SystemDisk<'a, R>> {
         let lock_path = format!(in alloc; "{folder}/lock")?;
-        let mut locked = open_lock(machine, lock_path.as_str())?;
+        let (mut locked, lock) = open_lock(machine, lock_path.as_str())?;
         locked.try_lock()?;
         say_lock(&mut locked)?;
-        let lock = Mark::of(&locked.metadata()?);
         let disk = SystemDisk {
             machine,
             folder,
@@ -127,14 +129,19 @@ impl<'a, R: Files<File = File>> SystemDisk<'a, R> {
 
 impl<R: Files> SystemDisk<'_, R> {
     /// Refused where the file `lock` of the folder isn't the one any more that is locked: the folder was moved, or another is in its
-    /// place. No link is followed.
+    /// place.
     fn check_lock(&self) -> io::Result<()> {
-        let there = fs::symlink_metadata(self.machine, self.lock_path.as_str())?;
-        if there.is_file() && Mark::of(&there) == self.lock {
-            Ok(())
-        } else {
-            Err(io::Error::other("the folder was moved or replaced"))
-        }
+        check_mark(self.machine, self.lock_path.as_str(), self.lock)
+    }
+}
+
+/// Refused where another file than this one is at a path. No link is followed.
+fn check_mark<R: Files>(machine: &R, path: &str, mark: Mark) -> io::Result<()> {
+    let there = fs::symlink_metadata(machine, path)?;
+    if there.is_file() && Mark::of(&there) == mark {
+        Ok(())
+    } else {
+        Err(io::Error::other("the folder was moved or replaced"))
     }
 }
 
@@ -161,8 +168,9 @@ fn check_kind<R: Files>(machine: &R, path: &str, why_not: &'static str) -> io::R
     }
 }
 
-/// Opens the file `lock` of a folder, and makes it if it isn't there, for its owner alone.
-fn open_lock<R: Files>(machine: &R, path: &str) -> io::Result<R::File> {
+/// Opens the file `lock` of a folder, and makes it if it isn't there, for its owner alone; an older one is made so. Nothing is changed in
+/// a file that a link led to meanwhile.
+fn open_lock<R: Files>(machine: &R, path: &str) -> io::Result<(R::File, Mark)> {
     check_kind(machine, path, "lock is no regular file")?;
     let mut how = File::options();
     how.read(true);
@@ -170,8 +178,13 @@ fn open_lock<R: Files>(machine: &R, path: &str) -> io::Result<R::File> {
     how.create(true);
     how.mode(LOCK_MODE);
     let file = how.open(machine, path)?;
-    file.set_permissions(Permissions::from_mode(LOCK_MODE))?;
-    Ok(file)
+    let metadata = file.metadata()?;
+    let mark = Mark::of(&metadata);
+    check_mark(machine, path, mark)?;
+    if metadata.mode() & MODES != LOCK_MODE {
+        file.set_permissions(Permissions::from_mode(LOCK_MODE))?;
+    }
+    Ok((file, mark))
 }
 
 /// Has the file `lock` say what it is, where it is empty. Refused where it says something else: it is somebody's file.
