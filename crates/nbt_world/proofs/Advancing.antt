@@ -8,7 +8,7 @@ use Rattle.nbt_world.specs.declared.clocks.Clocks.{Clocks}
 use Rattle.nbt_world.specs.declared.clocks.Least.{Least}
 use Rattle.nbt_world.specs.declared.ends.NodeEnd.{NodeEnd}
 use Rattle.nbt_world.specs.declared.ends.Ends.{Ends}
-use Rattle.nbt_world.specs.Drift.{reading, later, least_of, numbers_of, lesser, IsAllowed}
+use Rattle.nbt_world.specs.Drift.{reading, later, least_of, numbers_of, lesser, IsAllowed, IsAllowedTimely}
 use Rattle.nbt_world.specs.World.{WorldValue, addr_at, IsEnd}
 use Rattle.nbt_world.specs.Step.{Advances}
 use Rattle.nbt_world.proofs.Finding.{in_place}
@@ -31,21 +31,26 @@ both : (a b : Bool) → a ≡ true → b ≡ true → (a && b) ≡ true
 both true b p q = q
 both false b p q = absurd cc
 
-pub advanced : {w : WorldValue} {clocks : Clocks} {least : List Least} {allowed still : Bool} {ms : ℕ} {moves : ℕ → ℕ} → length w.ends.nodes.items ≤ 8 → clocks.clock ≡ later w.now.clock ms
+pub advanced : {w : WorldValue} {clocks : Clocks} {least : List Least} {allowed timely still still_timely : Bool} {ms : ℕ} {moves : ℕ → ℕ} → length w.ends.nodes.items ≤ 8 → clocks.clock ≡ later w.now.clock ms
     → ((n : ℕ) → n < 9 → reading clocks n ≡ later (reading w.now n) (moves n))
     → ((n : ℕ) → n < length w.ends.nodes.items + 1 → least_of least n ≡ lesser (least_of w.least n) (numbers_of clocks n))
     → (IsTrue allowed ↔ ((n : ℕ) → n < length w.ends.nodes.items + 1 → IsAllowed (least_of least n) clocks n)) → still ≡ (w.kept && allowed)
-    → Advances w ms moves (record w { now = clocks; least = least; kept = still })
-advanced {w} {clocks} {least} {allowed} few goes reads lower says is = record {
+    → (IsTrue timely ↔ ((n : ℕ) → n < length w.ends.nodes.items + 1 → IsAllowedTimely (least_of least n) clocks n)) → still_timely ≡ (w.timely && timely)
+    → Advances w ms moves (record w { now = clocks; least = least; kept = still; timely = still_timely })
+advanced {w} {clocks} {least} {allowed} {timely} few goes reads lower says is tells so = record {
   now = goes;
   readings = λ n e. let lt = end_counts w.ends n e in reads n (omega arith);
   least = λ n e. lower n (end_counts w.ends n e);
   kept = (λ on. down (and_parts w.kept allowed (sym is ∙ on)), λ on. is ∙ both w.kept allowed on.0 (says.1 (λ n lt. on.1 n (count_ends w.ends n lt))));
+  timely = (λ on. down_timely (and_parts w.timely timely (sym so ∙ on)), λ on. so ∙ both w.timely timely on.0 (tells.1 (λ n lt. on.1 n (count_ends w.ends n lt))));
   others = refl;
 }
   where
     down : (w.kept ≡ true) × (allowed ≡ true) → IsTrue w.kept × ((n : ℕ) → IsEnd w.ends n → IsAllowed (least_of least n) clocks n)
     down on = (on.0, λ n e. says.0 on.1 n (end_counts w.ends n e))
+
+    down_timely : (w.timely ≡ true) × (timely ≡ true) → IsTrue w.timely × ((n : ℕ) → IsEnd w.ends n → IsAllowedTimely (least_of least n) clocks n)
+    down_timely on = (on.0, λ n e. tells.0 on.1 n (end_counts w.ends n e))
 
 -- all alike
 pub alike : (w v : WorldValue) (ms : ℕ) → length w.ends.nodes.items ≤ 8 → Advances w ms (slice_index (replicate 9 ms)) v → Advances w ms (λ n. ms) v
@@ -54,6 +59,7 @@ alike w v ms few adv = record {
   readings = λ n e. let lt = end_counts w.ends n e in adv.readings n e ∙ (λ i. later (reading w.now n) (same n (omega arith) i));
   least = adv.least;
   kept = adv.kept;
+  timely = adv.timely;
   others = adv.others;
 }
   where

@@ -1,6 +1,6 @@
 -- Addresses that are apart, and the world that is made at them.
 use Rattle.std.proofs.Common.{◌≡◌, ℕ, zero, suc, ◌+◌, ◌*◌, ◌-◌, ◌^◌, ◌<◌, ◌≤◌, true, List, [], ◌∷◌, length, map, Option, Some, None, refl, sym, ap, subst, ◌∙◌, arith, inl, inr}
-use Rattle.std.specs.Prelude.{slice_get, replicate, Contains, ◌↔◌, ◌⊎◌}
+use Rattle.std.specs.Prelude.{slice_get, replicate, Contains, ◌↔◌}
 use Rattle.std.proofs.lemmas.Bool.{cases_lt}
 use Rattle.std.proofs.lemmas.List.{length-map, get_or-replicate, get_or_past}
 use Rattle.std.proofs.lemmas.Option.{none-some, same_Some, slice_get_within}
@@ -69,7 +69,7 @@ abbrev pub first_least : List Least
 first_least = replicate 9 (record { ahead = 1001 * 2 ^ 60; behind = 1000 * 2 ^ 60 })
 
 abbrev pub fresh : ConfigValue → Addr → List Addr → WorldValue
-fresh config server others = record { now = at_zero; config = config; ends = ends_at server others; sent = []; least = first_least; kept = true }
+fresh config server others = record { now = at_zero; config = config; ends = ends_at server others; sent = []; least = first_least; kept = true; timely = true }
 
 pub zero_read : (number : ℕ) → reading at_zero number ≡ 0
 zero_read number = elim (cases_lt number 9) [ inl lt ↦ get_or-replicate 9 number 0 0 lt | inr past ↦ get_or_past (replicate 9 0) number 0 past ]
@@ -85,7 +85,7 @@ first_numbers number lt =
     ∙ (λ i. record { ahead = 1000 * sym (zero_read number) i + 1001 * (2 ^ 60 - 0); behind = 999 * 0 + 1000 * (2 ^ 60 - sym (zero_read number) i) })
 
 pub is_fresh : (config : ConfigValue) (server : Addr) (others : List Addr) → length others ≤ 8 → IsFresh config (server ∷ others) (fresh config server others)
-is_fresh config server others few = record { now = refl; readings = zero_read; least = λ n e. first_numbers n (end_within server others few n e); kept = refl; config_is = refl; addrs_are = addrs_at server others; no_server = refl; none_crashed = refl; no_node = none_at server others; nothing_sent = refl }
+is_fresh config server others few = record { now = refl; readings = zero_read; least = λ n e. first_numbers n (end_within server others few n e); kept = refl; timely = refl; config_is = refl; addrs_are = addrs_at server others; no_server = refl; none_crashed = refl; no_node = none_at server others; nothing_sent = refl }
 
 nothing_among : (d : Datagram) → Contains [] d → ⊥
 nothing_among d c = let lt = c.1 in absurd (omega arith)
@@ -105,6 +105,8 @@ fresh_kept config server others are = record {
     readings = λ n e. rw (zero_read n) (omega arith);
     seen = λ n e. let first = first_numbers n (end_within server others few n e) in record { read = omega arith; least_ahead = rw first (omega arith); least_behind = rw first (omega arith) };
     allowed = λ on n e. let first = first_numbers n (end_within server others few n e) in record { not_ahead = rw first (omega arith); not_behind = rw first (omega arith) };
+    allowed_timely = λ on n e. let first = first_numbers n (end_within server others few n e) in record { not_ahead = rw first (omega arith); not_behind = λ node. rw first (omega arith) };
+    kept_timely = λ on. refl;
   };
   nodes = λ n a node p up. absurd (none-some node (sym (none_at server others n) ∙ up));
   server = λ s up. absurd (none-some s up);

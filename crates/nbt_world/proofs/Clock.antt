@@ -4,8 +4,9 @@ use Rattle.std.specs.Prelude.{IsTrue, Contains}
 use Rattle.nbt_lease.specs.Config.{ConfigValue}
 use Rattle.nbt_lease.specs.Lease.{Rows, leases_at, IsSound}
 use Rattle.nbt_world.specs.declared.clocks.Clocks.{Clocks}
+use Rattle.nbt_world.specs.declared.clocks.Least.{Least}
 use Rattle.nbt_world.specs.declared.network.Datagram.{Datagram}
-use Rattle.nbt_world.specs.Drift.{reading, later}
+use Rattle.nbt_world.specs.Drift.{reading, later, IsAllowed, IsAllowedTimely}
 use Rattle.nbt_world.specs.World.{WorldValue, IsEnd}
 use Rattle.nbt_world.specs.Step.{Advances}
 use Rattle.nbt_world.specs.Inner.Kept.{IsSeen, AreRead, IsSent, Invariant}
@@ -44,15 +45,21 @@ sees_now adv n e = record {
   least_behind = rw (adv.least n e) (omega arith);
 }
 
-pub read_on : {w v : WorldValue} {ms : ℕ} {moves : ℕ → ℕ} → Advances w ms moves v → AreRead w → AreRead (record w { now = v.now; least = v.least; kept = v.kept })
+-- an end that the bound allows is timely
+allowed_is_timely : {least : Least} {clocks : Clocks} {n : ℕ} → IsAllowed least clocks n → IsAllowedTimely least clocks n
+allowed_is_timely is = record { not_ahead = is.not_ahead; not_behind = λ node. is.not_behind }
+
+pub read_on : {w v : WorldValue} {ms : ℕ} {moves : ℕ → ℕ} → Advances w ms moves v → AreRead w → AreRead (record w { now = v.now; least = v.least; kept = v.kept; timely = v.timely })
 read_on {w} {ms = ms} {moves} adv read = record {
   now = rw adv.now (stops w.now.clock ms);
   readings = λ n e. rw (adv.readings n e) (stops (reading w.now n) (moves n));
   seen = λ n e. sees_now adv n e;
   allowed = λ on n e. ((adv.kept).0 on).1 n e;
+  allowed_timely = λ on n e. ((adv.timely).0 on).1 n e;
+  kept_timely = λ on. let was = (adv.kept).0 on in (adv.timely).1 (read.kept_timely was.0, λ n e. allowed_is_timely (was.1 n e));
 }
 
-pub clock_changes : StaySound → LaterLive → HoldLaw → {w v : WorldValue} {ms : ℕ} {moves : ℕ → ℕ} → Advances w ms moves v → Invariant w → Invariant (record w { now = v.now; least = v.least; kept = v.kept })
+pub clock_changes : StaySound → LaterLive → HoldLaw → {w v : WorldValue} {ms : ℕ} {moves : ℕ → ℕ} → Advances w ms moves v → Invariant w → Invariant (record w { now = v.now; least = v.least; kept = v.kept; timely = v.timely })
 clock_changes law live holds {w} {v} {ms} {moves} adv kept = record {
   ends = record { nodes_at_least = kept.ends.nodes_at_least; nodes_at_most = kept.ends.nodes_at_most; apart = kept.ends.apart };
   clocks = read_on adv kept.clocks;
@@ -80,8 +87,8 @@ clock_changes law live holds {w} {v} {ms} {moves} adv kept = record {
     reads : (n : ℕ) → IsEnd w.ends n → reading w.now n ≤ reading v.now n
     reads n e = rw (adv.readings n e) (goes_up (reading w.now n) (moves n) (kept.clocks.readings n e))
 
-    before : IsTrue v.kept → IsTrue w.kept
-    before on = ((adv.kept).0 on).0
+    before : IsTrue v.timely → IsTrue w.timely
+    before on = ((adv.timely).0 on).0
 
     sent : (d : Datagram) → Contains w.sent d → IsSent w.ends v.now v.least d
     sent d c = sent_frame (λ n. refl) goes (λ n e seen. sees adv kept.clocks n e d.moment seen) (kept.sent d c)

@@ -97,17 +97,17 @@ later_backs law now later (Some server) ip name kind till le lt (inl l) =
     })
 later_backs law now later (Some server) ip name kind till le lt (inr s) = inr s
 
-pub clock_claims : LaterLive → HoldLaw → {w : WorldValue} {later : Clocks} {lower : List Least} {still_kept : Bool} → w.now.clock ≤ later.clock → ((n : ℕ) → IsEnd w.ends n → reading w.now n ≤ reading later n)
-    → AreRead (record w { now = later; least = lower; kept = still_kept }) → ((d : Datagram) → Contains w.sent d → IsSent w.ends later lower d) → IsTrue still_kept
-    → ClaimsKept w → ClaimsKept (record w { now = later; least = lower; kept = still_kept })
-clock_claims law holds {w} {later} {lower} {still_kept} on_time le read all on = claims_frame w (record w { now = later; least = lower; kept = still_kept }) (λ n a p. le n (a, p)) (λ n. refl) old still
+pub clock_claims : LaterLive → HoldLaw → {w : WorldValue} {later : Clocks} {lower : List Least} {still_kept still_timely : Bool} → w.now.clock ≤ later.clock → ((n : ℕ) → IsEnd w.ends n → reading w.now n ≤ reading later n)
+    → AreRead (record w { now = later; least = lower; kept = still_kept; timely = still_timely }) → ((d : Datagram) → Contains w.sent d → IsSent w.ends later lower d) → IsTrue still_timely
+    → ClaimsKept w → ClaimsKept (record w { now = later; least = lower; kept = still_kept; timely = still_timely })
+clock_claims law holds {w} {later} {lower} {still_kept} {still_timely} on_time le read all on = claims_frame w (record w { now = later; least = lower; kept = still_kept; timely = still_timely }) (λ n a p. le n (a, p)) (λ n. refl) old still
   where
-    old : (n : ℕ) (a : Addr) (name : NameValue) (kind : Kind) (end : ℕ) → addr_of w.ends n ≡ Some a → ClaimsIn (record w { now = later; least = lower; kept = still_kept }) n a name kind end → reading later n < end → ClaimsIn w n a name kind end
+    old : (n : ℕ) (a : Addr) (name : NameValue) (kind : Kind) (end : ℕ) → addr_of w.ends n ≡ Some a → ClaimsIn (record w { now = later; least = lower; kept = still_kept; timely = still_timely }) n a name kind end → reading later n < end → ClaimsIn w n a name kind end
     old n a name kind end p c lt =
         claims_fewer on_time (λ moment message r. r) c
 
     still : (n : ℕ) (a : Addr) (name : NameValue) (kind : Kind) (end : ℕ) → addr_of w.ends n ≡ Some a → ClaimsIn w n a name kind end → reading later n < end → IsCoveredIn w n a name kind end
-        → IsCoveredIn (record w { now = later; least = lower; kept = still_kept }) n a name kind end
+        → IsCoveredIn (record w { now = later; least = lower; kept = still_kept; timely = still_timely }) n a name kind end
     still n a name kind end p c lt is =
         let counted = is.counted in
         covered_as (λ moment message r. r) is
@@ -118,7 +118,7 @@ clock_claims law holds {w} {later} {lower} {still_kept} on_time le read all on =
 pub replied_still : {old new : List Datagram} {server to : Addr} {name : NameValue} → Grows old new → Within (Replied old server to name) (Replied new server to name)
 replied_still grows moment message r = replied_among r (grows r.datagram r.among)
 
-node_claims : {w : WorldValue} {i : ℕ} {addr : Addr} {sent : List Datagram} → Adds w i addr sent → (x : Option NodeValue) → IsTrue w.kept → ((name : NameValue) → NoNewClaim w.config.longest w.config.life w.now.clock (Replied w.sent w.ends.server_addr addr name) (known (node_of w.ends (suc i)) name) (known x name))
+node_claims : {w : WorldValue} {i : ℕ} {addr : Addr} {sent : List Datagram} → Adds w i addr sent → (x : Option NodeValue) → IsTrue w.timely → ((name : NameValue) → NoNewClaim w.config.longest w.config.life w.now.clock (Replied w.sent w.ends.server_addr addr name) (known (node_of w.ends (suc i)) name) (known x name))
     → ClaimsKept (record w { ends = with_node w.ends (suc i) x; sent = sent })
 node_claims {w} {i} {addr} {sent} adds x on own = claims_frame w (record w { ends = with_node w.ends (suc i) x; sent = sent }) (λ n a p. omega arith) (addr_with w.ends i x) old still (adds.kept.claims on)
   where
@@ -146,13 +146,13 @@ pub record NameKept (config : ConfigValue) (w : WorldValue) (i : ℕ) (addr : Ad
   pub claims : NoNewClaim config.longest config.life w.now.clock (Replied w.sent w.ends.server_addr addr name) (known old name) (known new name)
 
 pub node_kept : {w : WorldValue} {i : ℕ} {addr : Addr} {sent : List Datagram} → Adds w i addr sent → (x : Option NodeValue) → ((node : NodeValue) → x ≡ Some node → IsNodeOf w (suc i) addr node)
-    → (IsTrue w.kept → (name : NameValue) → NameKept w.config w i addr sent (node_of w.ends (suc i)) x name) → Invariant (record w { ends = with_node w.ends (suc i) x; sent = sent })
+    → (IsTrue w.timely → (name : NameValue) → NameKept w.config w i addr sent (node_of w.ends (suc i)) x name) → Invariant (record w { ends = with_node w.ends (suc i) x; sent = sent })
 node_kept adds x is names = node_changes adds x is (λ on name. (names on name).requests) (λ on name. (names on name).replies) (λ on. node_claims adds x on (λ name. (names on name).claims))
 
 -- ---- the server starts, and crashes: the silence lasts as long as any claim
 
 -- the server is another, and nothing was sent
-pub server_claims : (w : WorldValue) (x y : Option ServerValue) → Invariant w → IsTrue w.kept
+pub server_claims : (w : WorldValue) (x y : Option ServerValue) → Invariant w → IsTrue w.timely
     → ((n : ℕ) (a : Addr) (name : NameValue) (kind : Kind) (end : ℕ) → addr_of w.ends n ≡ Some a → ClaimsIn w n a name kind end → reading w.now n < end → (is : IsCoveredIn w n a name kind end) → Covers (reading w.now 0) (option_or x y) a.ip name kind (reading is.moment 0 + 1000 * is.seconds))
     → ClaimsKept (record w { ends = with_server w.ends x y; sent = w.sent })
 server_claims w x y kept on backs =
@@ -162,11 +162,11 @@ server_claims w x y kept on backs =
     (kept.claims on)
 
 -- the server crashes, or resumes: it is as it was
-pub same_claims : (w : WorldValue) (x y : Option ServerValue) → option_or x y ≡ latest w.ends → Invariant w → IsTrue w.kept → ClaimsKept (record w { ends = with_server w.ends x y; sent = w.sent })
+pub same_claims : (w : WorldValue) (x y : Option ServerValue) → option_or x y ≡ latest w.ends → Invariant w → IsTrue w.timely → ClaimsKept (record w { ends = with_server w.ends x y; sent = w.sent })
 same_claims w x y same kept on =
     server_claims w x y kept on (λ n a name kind end p c lt is. subst (λ (s : Option ServerValue). Covers (reading w.now 0) s a.ip name kind (reading is.moment 0 + 1000 * is.seconds)) (sym same) is.backed)
 
-pub started_claims : (w : WorldValue) (server : ServerValue) → Invariant w → IsTrue w.kept → ServerStarts w.config (reading w.now 0) server → ClaimsKept (record w { ends = with_server w.ends (Some server) None; sent = w.sent })
+pub started_claims : (w : WorldValue) (server : ServerValue) → Invariant w → IsTrue w.timely → ServerStarts w.config (reading w.now 0) server → ClaimsKept (record w { ends = with_server w.ends (Some server) None; sent = w.sent })
 started_claims w server kept on new = server_claims w (Some server) None kept on backs
   where
     backs : (n : ℕ) (a : Addr) (name : NameValue) (kind : Kind) (end : ℕ) → addr_of w.ends n ≡ Some a → ClaimsIn w n a name kind end → reading w.now n < end → (is : IsCoveredIn w n a name kind end)

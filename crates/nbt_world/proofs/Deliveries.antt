@@ -53,7 +53,7 @@ hears_kept {w} {i} {node} {new} {name} {m} {told} at moves in_list = node_moves 
     moved : Moved node (reading w.now (suc i)) name (hear m) new None told
     moved = record { stays = stays_by_moves moves; moves = moves; named = known_is node new (reading w.now (suc i)) name (hear m) None told moves at.is.distinct (λ kind ttl e. cc) }
 
-    names : IsTrue w.kept → (q : NameValue) → (q ≡ name) ⊎ (q ≢ name) → NameKept node.config w i at.addr w.sent (Some node) (Some new) q
+    names : IsTrue w.timely → (q : NameValue) → (q ≡ name) ⊎ (q ≢ name) → NameKept node.config w i at.addr w.sent (Some node) (Some new) q
     names on q (inl e) = subst (λ (n : NameValue). NameKept node.config w i at.addr w.sent (Some node) (Some new) n) (sym e) (kept_hearing at moved in_list on)
     names on q (inr ne) = kept_by_time at moved.stays (adds_none at) q (λ moment message a. a) (others_by_time node new (reading w.now (suc i)) name (hear m) None told moves at.is.distinct q ne) on
 
@@ -304,7 +304,7 @@ server_kept laws {w} {server} {new} is t = record {
 took : {w : WorldValue} {server new : ServerValue} {from addr : Addr} {octets : List ℕ} {reply : Option MessageValue} {sent : List Datagram} → Handed w 0 from addr octets → latest w.ends ≡ Some server
     → ServerTakes server (reading w.now 0) from.ip octets reply new → Grows w.sent sent
     → ((a : Addr) (q : NameValue) (moment : Clocks) (message : MessageValue) → Replied sent w.ends.server_addr a q moment message → Replied w.sent w.ends.server_addr a q moment message ⊎ ((moment ≡ w.now) × (from ≡ a) × (reply ≡ Some message)))
-    → IsTrue w.kept → Took w server new from addr octets reply sent
+    → IsTrue w.timely → Took w server new from addr octets reply sent
 took {w} {server} h up t grows more on =
     let is = h.kept.server server up in
     record {

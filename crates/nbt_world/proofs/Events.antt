@@ -50,7 +50,7 @@ sends_kept law {w} {i} {node} {new} {name} {event} {octets} at sends named to = 
     adds : Adds w i at.addr (w.sent ++ datagram new.addr to w.now octets ∷ [])
     adds = adds_one law at sending
 
-    names : IsTrue w.kept → (q : NameValue) → (q ≡ name) ⊎ (q ≢ name) → NameKept node.config w i at.addr (w.sent ++ datagram new.addr to w.now octets ∷ []) (Some node) (Some new) q
+    names : IsTrue w.timely → (q : NameValue) → (q ≡ name) ⊎ (q ≢ name) → NameKept node.config w i at.addr (w.sent ++ datagram new.addr to w.now octets ∷ []) (Some node) (Some new) q
     names on q (inl e) =
         subst (λ (n : NameValue). NameKept node.config w i at.addr (w.sent ++ datagram new.addr to w.now octets ∷ []) (Some node) (Some new) n) (sym e) (kept_sending at moved adds (own_more law sending (suc i)) on)
     names on q (inr ne) =

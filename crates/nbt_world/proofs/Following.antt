@@ -15,7 +15,7 @@ use Rattle.nbt_world.proofs.Drifting.{RestLaw, asked_are_past}
 use Rattle.nbt_world.specs.Inner.Kept.{Known, known, last_sending, WantsIn, Wants, IsOpen, IsOpenIn, Covers, IsCoveredIn, Invariant}
 use Rattle.nbt_world.specs.Inner.Facts.{CoversIn, by_lease, by_silence, never_up, ClaimsAreCovered, IsRested, OpenIsFresh, RequestsHaveEnded}
 
-pub claims_covered : (w : WorldValue) → Invariant w → IsTrue w.kept → ClaimsAreCovered w
+pub claims_covered : (w : WorldValue) → Invariant w → IsTrue w.timely → ClaimsAreCovered w
 claims_covered w kept on n a name kind end p c lt =
     let past : reading is.moment 0 ≤ reading w.now 0 =
     subst (λ (m : Clocks). reading m 0 ≤ reading w.now 0) (is.replied_is).moment_is ((kept.sent (is.replied_is).datagram (is.replied_is).among).seen 0 (w.ends.server_addr, refl)).read in
@@ -47,7 +47,7 @@ open_wanted (Some k) kind first w = in_state k.state w
     in_state (Releasing k last p) w = w
     in_state (Resting last) w = w
 
-pub open_fresh : RestLaw → (w : WorldValue) → Invariant w → IsTrue w.kept → (n : ℕ) (a : Addr) (name : NameValue) → addr_of w.ends n ≡ Some a → OpenIsFresh w n a name
+pub open_fresh : RestLaw → (w : WorldValue) → Invariant w → IsTrue w.timely → (n : ℕ) (a : Addr) (name : NameValue) → addr_of w.ends n ≡ Some a → OpenIsFresh w n a name
 open_fresh law w kept on n a name p = record {
   one_kind = λ kind first moment message o x. (kept.requests on n a name p).one_kind kind moment message (open_wanted (known (node_of w.ends n) name) kind first o) x.0 x.1;
   asked_since = λ kind first moment message o x. (kept.replies on n a name p).since kind first moment message o (inl x.0) x.1;
@@ -63,7 +63,7 @@ open_fresh law w kept on n a name p = record {
       absurd (omega arith);
 }
 
-pub requests_ended : RestLaw → (w : WorldValue) → Invariant w → IsTrue w.kept → (n : ℕ) (a : Addr) (name : NameValue) → addr_of w.ends n ≡ Some a → RequestsHaveEnded w n a name
+pub requests_ended : RestLaw → (w : WorldValue) → Invariant w → IsTrue w.timely → (n : ℕ) (a : Addr) (name : NameValue) → addr_of w.ends n ≡ Some a → RequestsHaveEnded w n a name
 requests_ended law w kept on n a name p = record {
   by_last = λ moment message x. (kept.requests on n a name p).ended moment message x.0 x.1;
   no_request = λ moment message rested x.

@@ -1,6 +1,6 @@
 -- A name that can be got is got: what each of the three steps makes of the world.
-use Rattle.std.proofs.Common.{◌≡◌, ◌≢◌, ℕ, zero, suc, ◌+◌, ◌*◌, ◌<◌, ◌≤◌, Bool, true, false, cond, ltb, eqb, ◌&&◌, ◌||◌, List, [], ◌∷◌, ◌++◌, length, Option, Some, None, refl, sym, ap, subst, ◌∙◌, arith, inl, inr, length-append}
-use Rattle.std.specs.Prelude.{slice_get, slice_index, map, Result, Ok, Err, IfSome}
+use Rattle.std.proofs.Common.{◌≡◌, ◌≢◌, ℕ, zero, suc, ◌+◌, ◌*◌, ◌<◌, ◌≤◌, true, false, List, [], ◌∷◌, ◌++◌, length, Option, Some, None, refl, sym, ap, subst, ◌∙◌, arith, length-append}
+use Rattle.std.specs.Prelude.{slice_get, slice_index, map, Result, Ok, IfSome}
 use Rattle.std.proofs.lemmas.Bool.{eq-eqb, ne_eqb, lt-ltb, lt-leb, le-ltb}
 use Rattle.std.proofs.lemmas.Option.{none-some, same_Some}
 use Rattle.nbt_name.specs.declared.addr.Addr.{Addr}
@@ -16,18 +16,18 @@ use Rattle.nbt_lease.specs.declared.fault.GrantFault.{GrantFault}
 use Rattle.nbt_lease.specs.Config.{ConfigValue, granted}
 use Rattle.nbt_lease.specs.Drift.{hold, quiet}
 use Rattle.nbt_lease.specs.Lease.{TableValue, Leases, leases_at, live_count, count_of}
-use Rattle.nbt_lease.specs.Rules.{Asked as Asking_for, GrantCase, active, renews, group_full, table_full, begins, free, grant_until, end_of, Grants}
+use Rattle.nbt_lease.specs.Rules.{Asked as Asking_for, GrantCase, active, renews, group_full, table_full, begins, free, grant_until, end_of}
 use Rattle.nbt_server.specs.Serving.{ServerValue, speaks_from, Serves, ServesOctets}
 use Rattle.nbt_server.specs.Serving as serving
 use Rattle.nbt_node.specs.declared.state.State.{State}
-use Rattle.nbt_node.specs.declared.state.State.TheVariants.{Idle, Asking, Held, Releasing, Resting}
+use Rattle.nbt_node.specs.declared.state.State.TheVariants.{Asking, Held}
 use Rattle.nbt_node.specs.declared.state.Slot.{Slot}
 use Rattle.nbt_node.specs.declared.transaction.Transaction.{Transaction}
 use Rattle.nbt_node.specs.Node.{NodeValue, AreDistinct, has_room, slot_of, settled_slot, state_of, state_at, held_at}
 use Rattle.nbt_node.specs.Settling.{settled}
 use Rattle.nbt_node.specs.Transaction.{opened}
-use Rattle.nbt_node.specs.Moves.{Move, ask, hear, claim, id_after, held_for, granted_by, Told, nothing, NameMoves, asks as move_asks, granted_to, renewed_to, refused_to, loses_asked, loses_held, freed, asking_waits, giving_back_waits, refresh_waits, unmoved, matters}
-use Rattle.nbt_node.specs.Calls.{ask_refusal, Sends}
+use Rattle.nbt_node.specs.Moves.{Move, ask, hear, claim, held_for, granted_by, Told, asks as move_asks, granted_to, renewed_to, refused_to, loses_asked, loses_held, freed, asking_waits, giving_back_waits, refresh_waits, unmoved}
+use Rattle.nbt_node.specs.Calls.{ask_refusal}
 use Rattle.nbt_node.specs.Datagrams.{same_end, NodeHears, from_server, from_stranger, NodeTakes, NodeTakesOctets, spelled, unspelled}
 use Rattle.nbt_node.proofs.Moving.{may_ask, asked_is, known_is}
 use Rattle.nbt_world.specs.declared.clocks.Clocks.{Clocks}
@@ -38,7 +38,7 @@ use Rattle.nbt_world.specs.declared.event.Outcome.{Outcome}
 use Rattle.nbt_world.specs.declared.event.Outcome.TheVariants as o
 use Rattle.nbt_world.specs.Drift.{reading}
 use Rattle.nbt_world.specs.World.{WorldValue, addr_of, node_of, with_server, with_node, datagram}
-use Rattle.nbt_world.specs.Step.{Step, node_does, node_is_down, no_datagram, no_end, too_late, delivered, NodeDoes, asks, ask_refused, CallOutcomeValue, after, outcome_of, TakenValue, takes, is_lost, EndTakes, finds_down, by_server, by_node, ServerDoes, server_takes, server_forgets, after_taking, outcome_of_taking}
+use Rattle.nbt_world.specs.Step.{Step, node_does, node_is_down, no_datagram, no_end, too_late, delivered, NodeDoes, asks, ask_refused, CallOutcomeValue, after, TakenValue, takes, is_lost, EndTakes, finds_down, by_server, by_node, ServerDoes, server_takes, server_forgets, after_taking, outcome_of_taking}
 use Rattle.nbt_world.specs.Safety.{holding, held_by}
 use Rattle.nbt_world.specs.Getting.{CanGet}
 use Rattle.nbt_world.specs.Inner.Kept.{IsNodeOf, Invariant}

@@ -14,14 +14,14 @@ use Rattle.nbt_packet.specs.Text.{text}
 use Rattle.nbt_world.specs.declared.network.Datagram.{Datagram}
 use Rattle.nbt_world.specs.declared.event.Event.{Event}
 use Rattle.nbt_world.specs.declared.event.Outcome.{Outcome}
-use Rattle.nbt_world.specs.Drift.{reading, later, least_of, numbers_of, lesser, IsAllowed}
-use Rattle.nbt_world.specs.World.{WorldValue, IsEnd, addr_of, with_node, datagram, IsFresh}
+use Rattle.nbt_world.specs.Drift.{reading, later, least_of, numbers_of, lesser, IsAllowed, IsAllowedTimely, IsBounded, IsTimely}
+use Rattle.nbt_world.specs.World.{WorldValue, IsEnd, addr_of, with_node, datagram}
 use Rattle.nbt_world.specs.Step.{Advances, Step, ticks, advances, starts, starts_nothing, crashes, crashes_nothing, resumes, resumes_nothing, node_does, node_is_down, no_datagram, no_end, too_late, delivered, from_an_end, to_no_end, from_a_stranger, beside_no_end, beside_moves, beside_to_no_end, from_beside, CallOutcomeValue, nothing, refusal, octets_to, after, TakenValue, is_down, is_lost, takes, EndTakes, finds_down, by_server, by_node, after_taking, Starts, server_starts, node_starts, Crashes, server_crashes, node_crashes, Resumes, server_resumes}
 use Rattle.nbt_world.specs.Inner.Kept.{AreRead}
-use Rattle.nbt_world.specs.Safety.{IsSafe, AreSafe, AreSafeWhileKept, IsInStep, LetsClocksDrift, MoveClocksAlike, NoClockStopped, AreKeptUntilClocksStop, RunsSafely}
+use Rattle.nbt_world.specs.Safety.{IsSafe, AreSafe, AreSafeWhileKept, AreSafeWhileTimely, IsInStep, LetsClocksDrift, MoveClocksAlike, NoClockStopped, AreKeptUntilClocksStop, RunsSafely}
 use Rattle.nbt_world.proofs.Keeping.{addr_with, server_addr_with, read_with}
 use Rattle.nbt_world.proofs.Clock.{sees, read_on, goes_up}
-use Rattle.nbt_world.proofs.Exact.{Goes, Traced, traced_more, traced_first, traced_fresh}
+use Rattle.nbt_world.proofs.Exact.{Goes, Traced, traced_more, traced_first, Told, told_more, told_first, told_fresh, drift_bound, timely_bound}
 
 -- ---- the clocks go on
 
@@ -32,6 +32,7 @@ goes_on {w} {ms = ms} adv read = subst (λ (x : WorldValue). Goes w x) (sym adv.
   seen = sees adv read;
   least = adv.least;
   kept = adv.kept;
+  timely = adv.timely;
   same = λ n. refl;
 })
 
@@ -51,6 +52,7 @@ goes_with w ends sent same read = record {
   seen = λ n e moment seen. seen;
   least = λ n e. let s = read.seen n e in no_lesser (least_of w.least n) (numbers_of w.now n) s.least_ahead s.least_behind;
   kept = (λ on. (on, read.allowed on), λ on. on.0);
+  timely = (λ on. (on, read.allowed_timely on), λ on. on.0);
   same = same;
 }
 
@@ -222,15 +224,21 @@ IsKeptWhileGoing w = NoClockStopped w → IsTrue w.kept × IsSafe w
 
 -- what holds after some of its events
 pub record Along (events : List Event) (old : WorldValue) (worlds : List WorldValue) (last : WorldValue) : Type 0 where
+  pub safe_timely : AreSafeWhileTimely worlds
   pub safe : AreSafeWhileKept worlds
   pub traced : Traced old worlds last
+  pub told : Told IsAllowed IsBounded (λ w. w.kept) old worlds last
+  pub told_timely : Told IsAllowedTimely IsTimely (λ w. w.timely) old worlds last
   pub in_step : IsTrue old.kept → IsInStep old → MoveClocksAlike events → AreSafe worlds × AreInStep last
   pub alike : IsTrue old.kept → MoveClocksAlike events → AreKeptUntilClocksStop worlds × IsKeptUntilStopped last
 
-pub along_first : (w : WorldValue) → AreRead w → (IsTrue w.kept → IsSafe w) → Along [] w (w ∷ []) w
-along_first w read safe = record {
+pub along_first : (w : WorldValue) → AreRead w → (IsTrue w.timely → IsSafe w) → (IsTrue w.kept → IsSafe w) → Along [] w (w ∷ []) w
+along_first w read timely safe = record {
+  safe_timely = All-cons (λ x. IsTrue x.timely → IsSafe x) w [] timely (All-nil (λ x. IsTrue x.timely → IsSafe x));
   safe = All-cons (λ x. IsTrue x.kept → IsSafe x) w [] safe (All-nil (λ x. IsTrue x.kept → IsSafe x));
   traced = traced_first w read;
+  told = told_first IsAllowed IsBounded (λ x. x.kept) drift_bound w read.allowed;
+  told_timely = told_first IsAllowedTimely IsTimely (λ x. x.timely) timely_bound w read.allowed_timely;
   in_step = λ on same one. (All-cons IsSafe w [] (safe on) (All-nil IsSafe), (on, same));
   alike = λ on one. (All-cons IsKeptWhileGoing w [] (λ going. (on, safe on)) (All-nil IsKeptWhileGoing), λ going. on);
 }
@@ -239,11 +247,14 @@ all_parts : (P : Event → Type 0) (xs : List Event) (x : Event) → All P (xs +
 all_parts P [] x all = (All-nil P, All-head P x [] all)
 all_parts P (y ∷ xs) x all = let rest = all_parts P xs x (All-tail P y (xs ++ x ∷ []) all) in (All-cons P y xs (All-head P y (xs ++ x ∷ []) all) rest.0, rest.1)
 
-along_more : {events : List Event} {old w v : WorldValue} {worlds : List WorldValue} {event : Event} {outcome : Outcome} → Step w event outcome v → (IsTrue v.kept → IsSafe v) → Along events old worlds w
+along_more : {events : List Event} {old w v : WorldValue} {worlds : List WorldValue} {event : Event} {outcome : Outcome} → Step w event outcome v → (IsTrue v.timely → IsSafe v) → (IsTrue v.kept → IsSafe v) → Along events old worlds w
     → Along (events ++ event ∷ []) old (worlds ++ v ∷ []) v
-along_more {events} {w = w} {v} {worlds} {event} step safe is = record {
+along_more {events} {w = w} {v} {worlds} {event} step timely safe is = record {
+  safe_timely = All-push (λ x. IsTrue x.timely → IsSafe x) worlds v is.safe_timely timely;
   safe = All-push (λ x. IsTrue x.kept → IsSafe x) worlds v is.safe safe;
   traced = traced_more worlds w v goes is.traced;
+  told = told_more IsAllowed IsBounded (λ x. x.kept) drift_bound worlds w v goes goes.kept is.traced is.told;
+  told_timely = told_more IsAllowedTimely IsTimely (λ x. x.timely) timely_bound worlds w v goes goes.timely is.traced is.told_timely;
   in_step = λ on same one.
       let parts = all_parts (λ e. LetsClocksDrift e → ⊥) events event one in
       let was = is.in_step on same parts.0 in
@@ -260,14 +271,23 @@ along_more {events} {w = w} {v} {worlds} {event} step safe is = record {
     goes = passes_goes (step_passes step) (is.traced).read
 
 pub along_next : (events : List Event) (k : ℕ) {old w v : WorldValue} {worlds : List WorldValue} {event : Event} {outcome : Outcome} → k < length events → event ≡ get_or events k event → Step w event outcome v
-    → (IsTrue v.kept → IsSafe v) → Along (take k events) old worlds w → Along (take (k + 1) events) old (worlds ++ v ∷ []) v
-along_next events k {old} {v = v} {worlds} {event} within at step safe is =
+    → (IsTrue v.timely → IsSafe v) → (IsTrue v.kept → IsSafe v) → Along (take k events) old worlds w → Along (take (k + 1) events) old (worlds ++ v ∷ []) v
+along_next events k {old} {v = v} {worlds} {event} within at step timely safe is =
     subst (λ (es : List Event). Along es old (worlds ++ v ∷ []) v) (sym (take_more events k event within))
-    (subst (λ (x : Event). Along (take k events ++ x ∷ []) old (worlds ++ v ∷ []) v) at (along_more step safe is))
+    (subst (λ (x : Event). Along (take k events ++ x ∷ []) old (worlds ++ v ∷ []) v) at (along_more step timely safe is))
 
 pub runs_safely : {events : List Event} {old : WorldValue} {worlds : List WorldValue} {last : WorldValue} → Along events old worlds last → RunsSafely events old worlds last
 runs_safely is =
-    record { safe = is.safe; told = λ config addrs fresh. traced_fresh fresh is.traced; told_on = (is.traced).told; one_clock = λ on same one. (is.in_step on same one).0; alike = λ on one. (is.alike on one).0 }
+    record {
+      safe_timely = is.safe_timely;
+      safe = is.safe;
+      told = λ config addrs fresh. told_fresh IsAllowed IsBounded (λ x. x.kept) drift_bound fresh fresh.kept is.traced is.told;
+      told_on = (is.told).told;
+      told_timely = λ config addrs fresh. told_fresh IsAllowedTimely IsTimely (λ x. x.timely) timely_bound fresh fresh.timely is.traced is.told_timely;
+      told_on_timely = (is.told_timely).told;
+      one_clock = λ on same one. (is.in_step on same one).0;
+      alike = λ on one. (is.alike on one).0;
+    }
 
 pub runs_whole : (events : List Event) (k : ℕ) {old : WorldValue} {worlds : List WorldValue} {last : WorldValue} → length events ≤ k → Along (take k events) old worlds last → RunsSafely events old worlds last
 runs_whole events k {old} {worlds} {last} le is = runs_safely (subst (λ (es : List Event). Along es old worlds last) (take_all k events le) is)

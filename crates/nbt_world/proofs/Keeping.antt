@@ -75,6 +75,8 @@ read_with w ends sent same read = record {
   readings = λ n e. read.readings n (end_before w.ends ends same n e);
   seen = λ n e. read.seen n (end_before w.ends ends same n e);
   allowed = λ on n e. read.allowed on n (end_before w.ends ends same n e);
+  allowed_timely = λ on n e. read.allowed_timely on n (end_before w.ends ends same n e);
+  kept_timely = read.kept_timely;
 }
 
 -- ---- what was sent
@@ -153,9 +155,9 @@ pub no_reply_more : {w : WorldValue} {i : ℕ} {addr to : Addr} {name : NameValu
 no_reply_more {w} {i} {addr} {sent = sent} adds = replied_before (node_not_server w i addr adds.kept adds.at) (from_new w addr sent adds.new)
 
 pub node_changes : {w : WorldValue} {i : ℕ} {addr : Addr} {sent : List Datagram} → Adds w i addr sent → (x : Option NodeValue) → ((node : NodeValue) → x ≡ Some node → IsNodeOf w (suc i) addr node)
-    → (IsTrue w.kept → (name : NameValue) → RequestsEnded w.config.life (suc i) w.now.clock (reading w.now (suc i)) (Asked sent addr.ip name) (known x name))
-    → (IsTrue w.kept → (name : NameValue) → RepliesFresh w.config.life (suc i) w.now.clock (reading w.now (suc i)) (Asked sent addr.ip name) (Replied sent w.ends.server_addr addr name) (known x name))
-    → (IsTrue w.kept → ClaimsKept (record w { ends = with_node w.ends (suc i) x; sent = sent }))
+    → (IsTrue w.timely → (name : NameValue) → RequestsEnded w.config.life (suc i) w.now.clock (reading w.now (suc i)) (Asked sent addr.ip name) (known x name))
+    → (IsTrue w.timely → (name : NameValue) → RepliesFresh w.config.life (suc i) w.now.clock (reading w.now (suc i)) (Asked sent addr.ip name) (Replied sent w.ends.server_addr addr name) (known x name))
+    → (IsTrue w.timely → ClaimsKept (record w { ends = with_node w.ends (suc i) x; sent = sent }))
     → Invariant (record w { ends = with_node w.ends (suc i) x; sent = sent })
 node_changes {w} {i} {addr} {sent} adds x is names replies claims = record {
   ends = record {
@@ -190,14 +192,14 @@ node_changes {w} {i} {addr} {sent} adds x is names replies claims = record {
     no_request_more : (n : ℕ) (a : Addr) → addr_of w.ends n ≡ Some a → (n ≡ suc i → ⊥) → {name : NameValue} → Within (Asked sent a.ip name) (Asked w.sent a.ip name)
     no_request_more n a p ne = asked_before addr (λ same. ne (adds.kept.ends.apart n (suc i) a addr p adds.at (sym same))) (from_new w addr sent adds.new)
 
-    requests_at : IsTrue w.kept → (n : ℕ) (a : Addr) (name : NameValue) → addr_of w.ends n ≡ Some a → (n ≡ suc i) ⊎ (n ≡ suc i → ⊥)
+    requests_at : IsTrue w.timely → (n : ℕ) (a : Addr) (name : NameValue) → addr_of w.ends n ≡ Some a → (n ≡ suc i) ⊎ (n ≡ suc i → ⊥)
         → RequestsEnded w.config.life n w.now.clock (reading w.now n) (Asked sent a.ip name) (known (node_of (with_node w.ends (suc i) x) n) name)
     requests_at on n a name p (inl e) = rw (value_at n e, ← same_addr n a p e, e) (names on name)
     requests_at on n a name p (inr ne) =
         rw (node_with_other w.ends i x n ne)
         (ended-frame (omega arith) (omega arith) (no_request_more n a p ne) (adds.kept.requests on n a name p))
 
-    replies_at : IsTrue w.kept → (n : ℕ) (a : Addr) (name : NameValue) → addr_of w.ends n ≡ Some a → (n ≡ suc i) ⊎ (n ≡ suc i → ⊥)
+    replies_at : IsTrue w.timely → (n : ℕ) (a : Addr) (name : NameValue) → addr_of w.ends n ≡ Some a → (n ≡ suc i) ⊎ (n ≡ suc i → ⊥)
         → RepliesFresh w.config.life n w.now.clock (reading w.now n) (Asked sent a.ip name) (Replied sent w.ends.server_addr a name) (known (node_of (with_node w.ends (suc i) x) n) name)
     replies_at on n a name p (inl e) = rw (value_at n e, ← same_addr n a p e, e) (replies on name)
     replies_at on n a name p (inr ne) =
@@ -220,9 +222,9 @@ server_node_with ends x y (suc j) = refl
 
 pub server_changes : (w : WorldValue) (x y : Option ServerValue) (sent : List Datagram) → Invariant w
     → ((server : ServerValue) → option_or x y ≡ Some server → IsServerOf w server) → IsNew w w.ends.server_addr sent
-    → (IsTrue w.kept → (n : ℕ) (a : Addr) (name : NameValue) → addr_of w.ends n ≡ Some a
+    → (IsTrue w.timely → (n : ℕ) (a : Addr) (name : NameValue) → addr_of w.ends n ≡ Some a
     → RepliesFresh w.config.life n w.now.clock (reading w.now n) (Asked sent a.ip name) (Replied sent w.ends.server_addr a name) (known (node_of w.ends n) name))
-    → (IsTrue w.kept → ClaimsKept (record w { ends = with_server w.ends x y; sent = sent }))
+    → (IsTrue w.timely → ClaimsKept (record w { ends = with_server w.ends x y; sent = sent }))
     → Invariant (record w { ends = with_server w.ends x y; sent = sent })
 server_changes w x y sent kept is new replies claims = record {
   ends = record {
@@ -241,7 +243,7 @@ server_changes w x y sent kept is new replies claims = record {
   claims = claims;
 }
   where
-    requests_at : IsTrue w.kept → (n : ℕ) (a : Addr) (name : NameValue) → addr_of w.ends n ≡ Some a
+    requests_at : IsTrue w.timely → (n : ℕ) (a : Addr) (name : NameValue) → addr_of w.ends n ≡ Some a
         → RequestsEnded w.config.life n w.now.clock (reading w.now n) (Asked sent a.ip name) (known (node_of (with_server w.ends x y) n) name)
     requests_at on zero a name p =
         ended-down (asked_read w zero (a, p) (all_sent w w.ends.server_addr sent kept new))

@@ -119,9 +119,9 @@ pub record UpAt (w : WorldValue) (i : ℕ) (node : NodeValue) : Type 0 where
   pub at : addr_of w.ends (suc i) ≡ Some addr
   pub up : node_of w.ends (suc i) ≡ Some node
   pub is : IsNodeOf w (suc i) addr node
-  pub past : IsTrue w.kept → (q : NameValue) → ArePast node.config.life (suc i) w.now.clock (reading w.now (suc i)) (Asked w.sent addr.ip q)
-  pub requests : IsTrue w.kept → (q : NameValue) → RequestsEnded node.config.life (suc i) w.now.clock (reading w.now (suc i)) (Asked w.sent addr.ip q) (known (Some node) q)
-  pub replies : IsTrue w.kept → (q : NameValue) → RepliesFresh node.config.life (suc i) w.now.clock (reading w.now (suc i)) (Asked w.sent addr.ip q) (Replied w.sent w.ends.server_addr addr q) (known (Some node) q)
+  pub past : IsTrue w.timely → (q : NameValue) → ArePast node.config.life (suc i) w.now.clock (reading w.now (suc i)) (Asked w.sent addr.ip q)
+  pub requests : IsTrue w.timely → (q : NameValue) → RequestsEnded node.config.life (suc i) w.now.clock (reading w.now (suc i)) (Asked w.sent addr.ip q) (known (Some node) q)
+  pub replies : IsTrue w.timely → (q : NameValue) → RepliesFresh node.config.life (suc i) w.now.clock (reading w.now (suc i)) (Asked w.sent addr.ip q) (Replied w.sent w.ends.server_addr addr q) (known (Some node) q)
 
 pub up_at : RestLaw → {w : WorldValue} {node : NodeValue} (i : ℕ) → Invariant w → node_of w.ends (suc i) ≡ Some node → UpAt w i node
 up_at law {w} {node} i kept up =
@@ -173,7 +173,7 @@ adds_one law {w} {i} at {d} sending = record { kept = at.kept; at = at.at; new =
 
 -- The world after the node is another, with what is new in the list.
 pub node_moves : {w : WorldValue} {i : ℕ} {node new : NodeValue} {sent : List Datagram} (at : UpAt w i node) → IsNodeOf w (suc i) at.addr new → Adds w i at.addr sent
-    → (IsTrue w.kept → (q : NameValue) → NameKept node.config w i at.addr sent (Some node) (Some new) q) → Invariant (record w { ends = with_node w.ends (suc i) (Some new); sent = sent })
+    → (IsTrue w.timely → (q : NameValue) → NameKept node.config w i at.addr sent (Some node) (Some new) q) → Invariant (record w { ends = with_node w.ends (suc i) (Some new); sent = sent })
 node_moves {w} {i} {node} {new} {sent} at is adds names =
     node_kept adds (Some new) (λ x e. subst (λ (y : NodeValue). IsNodeOf w (suc i) at.addr y) (same_Some new x e) is)
     (λ on q. subst (λ (c : ConfigValue). NameKept c w i at.addr sent (node_of w.ends (suc i)) (Some new) q) at.is.config_is (subst (λ (x : Option NodeValue). NameKept node.config w i at.addr sent x (Some new) q) (sym at.up) (names on q)))
@@ -190,7 +190,7 @@ fresh_as new q e f kept = rw (e, f) kept
 
 -- by time alone, where no request about it is new
 pub kept_by_time : {w : WorldValue} {i : ℕ} {node new : NodeValue} {sent : List Datagram} (at : UpAt w i node) → Stays node (reading w.now (suc i)) new → Adds w i at.addr sent
-    → (q : NameValue) → Within (Asked sent at.addr.ip q) (Asked w.sent at.addr.ip q) → state_of new q ≡ state_at node (reading w.now (suc i)) q → IsTrue w.kept → NameKept node.config w i at.addr sent (Some node) (Some new) q
+    → (q : NameValue) → Within (Asked sent at.addr.ip q) (Asked w.sent at.addr.ip q) → state_of new q ≡ state_at node (reading w.now (suc i)) q → IsTrue w.timely → NameKept node.config w i at.addr sent (Some node) (Some new) q
 kept_by_time {new = new} at stays adds q fewer state on = record {
   requests = known_as new q stays.start_is state (ended-frame (omega arith) (omega arith) fewer (ended-settled (at.past on q) (at.requests on q)));
   replies = fresh_as new q stays.start_is state (fresh-frame (omega arith) (omega arith) (asked_still adds.grows) fewer (no_reply_more adds) (fresh-settled (at.past on q) (at.replies on q)));
@@ -200,7 +200,7 @@ kept_by_time {new = new} at stays adds q fewer state on = record {
 -- a request about it was sent
 pub kept_sending : {w : WorldValue} {i : ℕ} {node new : NodeValue} {name : NameValue} {event : NameEvent} {m : MessageValue} {told : Told} {sent : List Datagram} (at : UpAt w i node)
     → Moved node (reading w.now (suc i)) name event new (Some m) told → Adds w i at.addr sent
-    → IsMore (suc i) (reading w.now (suc i)) m (Asked w.sent at.addr.ip name) (Asked sent at.addr.ip name) → IsTrue w.kept → NameKept node.config w i at.addr sent (Some node) (Some new) name
+    → IsMore (suc i) (reading w.now (suc i)) m (Asked w.sent at.addr.ip name) (Asked sent at.addr.ip name) → IsTrue w.timely → NameKept node.config w i at.addr sent (Some node) (Some new) name
 kept_sending {new = new} {name = name} at moved adds more on =
     let past = at.past on name in
     let ended = ended-settled past (at.requests on name) in
@@ -216,7 +216,7 @@ kept_sending {new = new} {name = name} at moved adds more on =
 
 -- something about it was heard, which is one of the list where it is a positive reply from the server
 pub kept_hearing : {w : WorldValue} {i : ℕ} {node new : NodeValue} {name : NameValue} {m : MessageValue} {told : Told} (at : UpAt w i node) → Moved node (reading w.now (suc i)) name (hear m) new None told
-    → IsListed w.config.life w.now.clock (Replied w.sent w.ends.server_addr at.addr name) m → IsTrue w.kept → NameKept node.config w i at.addr w.sent (Some node) (Some new) name
+    → IsListed w.config.life w.now.clock (Replied w.sent w.ends.server_addr at.addr name) m → IsTrue w.timely → NameKept node.config w i at.addr w.sent (Some node) (Some new) name
 kept_hearing {w} {new = new} {name = name} {m = m} at moved listed on =
     let past = at.past on name in
     record {

@@ -1,6 +1,6 @@
 -- Ends by their numbers and places, and what a change of one of them leaves.
 use Rattle.std.proofs.Common.{◌≡◌, ◌≢◌, ℕ, zero, suc, ◌-◌, ◌<◌, ◌≤◌, Bool, true, false, List, [], ◌∷◌, length, get_or, set, drop, Option, Some, None, refl, sym, ap, subst, ◌∙◌, arith, inl, inr}
-use Rattle.std.specs.Prelude.{slice_get, is_some, is_none, IsSome, MatchBool, ◌⊎◌}
+use Rattle.std.specs.Prelude.{slice_get, is_some, IsSome, MatchBool}
 use Rattle.std.specs.List.{refill}
 use Rattle.std.specs.Option.{option_or}
 use Rattle.std.proofs.lemmas.List.{take_at, length-set}

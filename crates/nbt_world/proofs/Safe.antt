@@ -41,7 +41,7 @@ holder_up w i name kind e = go (node_of w.ends i) refl e
     go None p e = absurd (none-some kind e)
     go (Some node) p e = (node, p)
 
-pub is_safe : (w : WorldValue) → Invariant w → IsTrue w.kept → IsSafe w
+pub is_safe : (w : WorldValue) → Invariant w → IsTrue w.timely → IsSafe w
 is_safe w kept on name i j k l ne p q =
     let a = holder_up w i name k p in
     let b = holder_up w j name l q in

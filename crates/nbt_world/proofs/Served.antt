@@ -50,7 +50,7 @@ request_moves name (status id n names) is = is
 request_moves name (wait id n ttl) is = is
 
 -- what it has asked with these octets is the name as its kind
-asked_kind : {w : WorldValue} {from to : Addr} {octets : List ℕ} {n : ℕ} {a : Addr} {q : NameValue} {kind : Kind} → Invariant w → IsTrue w.kept → Origin w from to octets → WantsAt w n a q kind
+asked_kind : {w : WorldValue} {from to : Addr} {octets : List ℕ} {n : ℕ} {a : Addr} {q : NameValue} {kind : Kind} → Invariant w → IsTrue w.timely → Origin w from to octets → WantsAt w n a q kind
     → (m : MessageValue) → Spells octets m → a.ip ≡ from.ip → IsRequest q m → AsksAs kind m
 asked_kind {n = n} {a} kept on (strange off) want m spells same is = absurd (off (n, a, want.at, same))
 asked_kind {q = q} kept on (harmless off) want m spells same is = absurd (off (m, spells, request_moves q m is))
@@ -61,7 +61,7 @@ asked_kind {n = n} {a} {q} {kind} kept on (listed d c f t o delivered) want m sp
 -- The server took a datagram, and sent its reply, if any.
 pub record Took (w : WorldValue) (server new : ServerValue) (from to : Addr) (octets : List ℕ) (reply : Option MessageValue) (sent : List Datagram) : Type 0 where
   pub kept : Invariant w
-  pub on : IsTrue w.kept
+  pub on : IsTrue w.timely
   pub up : latest w.ends ≡ Some server
   pub config_is : server.table.config ≡ w.config
   pub sound : IsSound server.table.config (reading w.now 0) (leases_at (reading w.now 0) server.table.rows)
@@ -176,7 +176,7 @@ served_claims laws {w} {server} {new} {from} {reply = reply} {sent} took = recor
     beside i j a b q k l d e ne p s x y (given g ends) (given h last) = absurd (ne (took.kept.ends.apart i j a b p s (ap (λ (z : Addr). z.ip) (sym g.to_is ∙ h.to_is))))
 
 -- the leases are as they were, and the silence
-pub still_claims : {w : WorldValue} {server new : ServerValue} → Invariant w → IsTrue w.kept → latest w.ends ≡ Some server → leases_at (reading w.now 0) new.table.rows ≡ leases_at (reading w.now 0) server.table.rows
+pub still_claims : {w : WorldValue} {server new : ServerValue} → Invariant w → IsTrue w.timely → latest w.ends ≡ Some server → leases_at (reading w.now 0) new.table.rows ≡ leases_at (reading w.now 0) server.table.rows
     → new.start ≡ server.start → new.table.config ≡ server.table.config → {kept : Option ServerValue} → ClaimsKept (record w { ends = with_server w.ends (Some new) kept; sent = w.sent })
 still_claims {w} {server} {new} kept on up leases start config {kept = y} =
     server_claims w (Some new) y kept on (λ n a q kind end p c lt is. still a q kind (reading is.moment 0 + 1000 * is.seconds) (subst (λ (s : Option ServerValue). Covers (reading w.now 0) s a.ip q kind (reading is.moment 0 + 1000 * is.seconds)) up is.backed))

@@ -80,7 +80,7 @@ soon_kept law w i node name kept up = node_moves at is (adds_none at) (λ on q. 
       past = at.is.past;
     }
 
-    own : IsTrue w.kept → NameKept node.config w i at.addr w.sent (Some node) (Some new) name
+    own : IsTrue w.timely → NameKept node.config w i at.addr w.sent (Some node) (Some new) name
     own on =
         let state_is = soon_is node name at.is.distinct in
         let fade = soon_fades node.config.life (reading w.now (suc i)) node.start (state_of node name) in
@@ -90,7 +90,7 @@ soon_kept law w i node name kept up = node_moves at is (adds_none at) (λ on q. 
           claims = λ kind end c. soon_claims (state_of node name) kind end (claims_as new name refl state_is kind end c);
         }
 
-    other : (q : NameValue) → q ≢ name → IsTrue w.kept → NameKept node.config w i at.addr w.sent (Some node) (Some new) q
+    other : (q : NameValue) → q ≢ name → IsTrue w.timely → NameKept node.config w i at.addr w.sent (Some node) (Some new) q
     other q ne on =
         let state_is = others_are node name q ne in
         record {
@@ -99,6 +99,6 @@ soon_kept law w i node name kept up = node_moves at is (adds_none at) (λ on q. 
           claims = λ kind end c. claims_as new q refl state_is kind end c;
         }
 
-    names : IsTrue w.kept → (q : NameValue) → (q ≡ name) ⊎ (q ≢ name) → NameKept node.config w i at.addr w.sent (Some node) (Some new) q
+    names : IsTrue w.timely → (q : NameValue) → (q ≡ name) ⊎ (q ≢ name) → NameKept node.config w i at.addr w.sent (Some node) (Some new) q
     names on q (inl e) = subst (λ (n : NameValue). NameKept node.config w i at.addr w.sent (Some node) (Some new) n) (sym e) (own on)
     names on q (inr ne) = other q ne on

@@ -1,10 +1,10 @@
 -- Looking at the ends one by one: those below a number were looked at, and the others' least numbers are as they were.
-use Rattle.std.proofs.Common.{◌≡◌, ℕ, ◌+◌, ◌<◌, ◌≤◌, ◌↔◌, IsTrue, Bool, true, false, ltb, List, length, slice_set, refl, sym, ap, ◌∙◌, subst, arith, ◌⊎◌, inl, inr}
+use Rattle.std.proofs.Common.{◌≡◌, ◌≢◌, ℕ, ◌+◌, ◌<◌, ◌≤◌, ◌↔◌, IsTrue, Bool, true, false, ltb, List, length, slice_set, refl, sym, ap, ◌∙◌, subst, arith, ◌⊎◌, inl, inr}
 use Rattle.std.proofs.lemmas.Bool.{ltb-true, ltb-false}
 use Rattle.std.proofs.lemmas.List.{get_or-set_same, get_or-set_other, length-set}
 use Rattle.nbt_world.specs.declared.clocks.Clocks.{Clocks}
 use Rattle.nbt_world.specs.declared.clocks.Least.{Least}
-use Rattle.nbt_world.specs.Drift.{least_of, numbers_of, lesser, IsAllowed}
+use Rattle.nbt_world.specs.Drift.{least_of, numbers_of, lesser, IsAllowed, IsAllowedTimely}
 
 pub record Watched (old new : List Least) (clocks : Clocks) (number : ℕ) (kept : Bool) : Type 0 where
   pub whole : length new ≡ 9
@@ -65,3 +65,30 @@ allowed_there new clocks number v seen result within is told = (λ t. forth (tel
 pub kept_on : (kept after allows : Bool) (A : Type 0) → IsTrue allows ↔ A → ((allows ≡ false) × (after ≡ false)) ⊎ ((allows ≡ true) × (after ≡ kept)) → IsTrue after ↔ (IsTrue kept × A)
 kept_on kept after allows A told (inl x) = (λ t. absurd cc, λ p. let t = told.1 p.1 in absurd cc)
 kept_on kept after allows A told (inr x) = (λ t. (sym x.1 ∙ t, told.0 x.0), λ p. x.1 ∙ p.0)
+
+-- the same of whether the ends are timely, by the least numbers as they are
+pub timely_next : (least : List Least) (clocks : Clocks) (number : ℕ) (seen : Least) → seen ≡ numbers_of clocks number → (timely after allows : Bool)
+    → (IsTrue allows ↔ ((seen.ahead ≤ (least_of least number).ahead + 1000) × (number ≢ 0 → seen.behind ≤ (least_of least number).behind + 1000)))
+    → ((allows ≡ false) × (after ≡ false)) ⊎ ((allows ≡ true) × (after ≡ timely)) → (IsTrue timely ↔ ((n : ℕ) → n < number → IsAllowedTimely (least_of least n) clocks n))
+    → IsTrue after ↔ ((n : ℕ) → n < number + 1 → IsAllowedTimely (least_of least n) clocks n)
+timely_next least clocks number seen is timely after allows told goes was = (λ t n below. at n t (below_or_at n below), λ all. both.1 (was.1 (λ n below. all n (omega arith)), all number (omega arith)))
+  where
+    here : IsTrue allows ↔ IsAllowedTimely (least_of least number) clocks number
+    here = (
+      λ t. let a = told.0 t in record { not_ahead = subst (λ (x : Least). x.ahead ≤ (least_of least number).ahead + 1000) is a.0; not_behind = λ node. subst (λ (x : Least). x.behind ≤ (least_of least number).behind + 1000) is (a.1 node) },
+      λ a. told.1 (subst (λ (x : Least). x.ahead ≤ (least_of least number).ahead + 1000) (sym is) a.not_ahead, λ node. subst (λ (x : Least). x.behind ≤ (least_of least number).behind + 1000) (sym is) (a.not_behind node)),
+    )
+
+    both : IsTrue after ↔ (IsTrue timely × IsAllowedTimely (least_of least number) clocks number)
+    both = kept_on timely after allows (IsAllowedTimely (least_of least number) clocks number) here goes
+
+    below_or_at : (n : ℕ) → n < number + 1 → (n < number) ⊎ (n ≡ number)
+    below_or_at n below = go (ltb n number) refl
+      where
+        go : (t : Bool) → ltb n number ≡ t → (n < number) ⊎ (n ≡ number)
+        go true p = inl (ltb-true n number p)
+        go false p = let from = ltb-false n number p in inr (omega arith)
+
+    at : (n : ℕ) → IsTrue after → (n < number) ⊎ (n ≡ number) → IsAllowedTimely (least_of least n) clocks n
+    at n t (inl below) = was.0 (both.0 t).0 n below
+    at n t (inr e) = subst (λ (m : ℕ). IsAllowedTimely (least_of least m) clocks m) (sym e) (both.0 t).1

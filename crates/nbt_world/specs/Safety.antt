@@ -11,7 +11,7 @@ use Rattle.nbt_world.specs.declared.event.Event.{Event}
 use Rattle.nbt_world.specs.declared.event.Outcome.{Outcome}
 use Rattle.nbt_world.specs.declared.event.Event.TheVariants.{Advance}
 use Rattle.nbt_world.specs.declared.clocks.Least.{Least}
-use Rattle.nbt_world.specs.Drift.{reading, IsBounded, least_of, IsAllowed}
+use Rattle.nbt_world.specs.Drift.{reading, IsBounded, IsTimely, least_of, IsAllowed, IsAllowedTimely}
 use Rattle.nbt_world.specs.World.{WorldValue, IsEnd, node_of, IsFresh}
 use Rattle.nbt_world.specs.Step.{Step}
 
@@ -40,6 +40,10 @@ AreSafe worlds = All IsSafe worlds
 abbrev pub AreSafeWhileKept : List WorldValue → Type 0
 AreSafeWhileKept worlds = All (λ world. IsTrue world.kept → IsSafe world) worlds
 
+-- each of them up to which the readings were timely is
+abbrev pub AreSafeWhileTimely : List WorldValue → Type 0
+AreSafeWhileTimely worlds = All (λ world. IsTrue world.timely → IsSafe world) worlds
+
 -- These events, in order, lead from a world through these worlds: the first is that world itself, and the last is
 -- where they end.
 pub data Run : List Event → WorldValue → List WorldValue → WorldValue → Type 0 where
@@ -54,6 +58,14 @@ KeepDriftBound worlds = (i j : ℕ) (early late : WorldValue) → i ≤ j → sl
 -- Each of these worlds keeps the bound to these least numbers.
 abbrev pub KeepBoundTo : List Least → List WorldValue → Type 0
 KeepBoundTo least worlds = (index : ℕ) (world : WorldValue) → slice_get worlds index ≡ Some world → (number : ℕ) → IsEnd world.ends number → IsAllowed (least_of least number) world.now number
+
+-- Between any two of them each end's clock was timely: none was too fast, and no node's too slow.
+abbrev pub AreTimely : List WorldValue → Type 0
+AreTimely worlds = (i j : ℕ) (early late : WorldValue) → i ≤ j → slice_get worlds i ≡ Some early → slice_get worlds j ≡ Some late → (number : ℕ) → IsEnd late.ends number → IsTimely early.now late.now number
+
+-- Each of them is timely to these least numbers.
+abbrev pub AreTimelyTo : List Least → List WorldValue → Type 0
+AreTimelyTo least worlds = (index : ℕ) (world : WorldValue) → slice_get worlds index ≡ Some world → (number : ℕ) → IsEnd world.ends number → IsAllowedTimely (least_of least number) world.now number
 
 -- all ends read the true clock
 abbrev pub IsInStep : WorldValue → Type 0
@@ -76,13 +88,17 @@ NoClockStopped world = (world.now.clock < last_moment) × ((number : ℕ) → Is
 abbrev pub AreKeptUntilClocksStop : List WorldValue → Type 0
 AreKeptUntilClocksStop worlds = All (λ world. NoClockStopped world → IsTrue world.kept × IsSafe world) worlds
 
--- What is promised of the worlds along a run: each up to which the bound was kept is safe. From a new world, `kept` says
--- exactly whether it was; from any world, whether it was before, and is between any two of these and to the least numbers
--- of before. Where no event moves the clocks apart, all of them are safe if all ends read the true clock at
--- first; and whatever they read, from a world that kept the bound all keep it, and are safe, until a clock stops.
+-- What is promised of the worlds along a run: each up to which the readings were timely is safe, and so is each up to which they
+-- kept the bound. From a new world, `kept` says exactly whether they kept it, and `timely` whether they were timely; from any world,
+-- whether they did or were before, and do or are between any two of these and to the least numbers of before. Where no event moves
+-- the clocks apart, all of them are safe if all ends read the true clock at first; and whatever they read, from a world that kept
+-- the bound all keep it, and are safe, until a clock stops.
 pub record RunsSafely (events : List Event) (old : WorldValue) (worlds : List WorldValue) (new : WorldValue) : Type 0 where
+  pub safe_timely : AreSafeWhileTimely worlds
   pub safe : AreSafeWhileKept worlds
   pub told : (config : ConfigValue) (addrs : List Addr) → IsFresh config addrs old → IsTrue new.kept ↔ KeepDriftBound worlds
   pub told_on : IsTrue new.kept ↔ (IsTrue old.kept × KeepBoundTo old.least worlds × KeepDriftBound worlds)
+  pub told_timely : (config : ConfigValue) (addrs : List Addr) → IsFresh config addrs old → IsTrue new.timely ↔ AreTimely worlds
+  pub told_on_timely : IsTrue new.timely ↔ (IsTrue old.timely × AreTimelyTo old.least worlds × AreTimely worlds)
   pub one_clock : IsTrue old.kept → IsInStep old → MoveClocksAlike events → AreSafe worlds
   pub alike : IsTrue old.kept → MoveClocksAlike events → AreKeptUntilClocksStop worlds

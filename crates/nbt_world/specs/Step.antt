@@ -1,5 +1,5 @@
 -- One step of the world: what an event makes of it, a line for each outcome (our profile).
-use Rattle.std.specs.Prelude.{◌≡◌, ◌≢◌, ℕ, ◌≤◌, ◌↔◌, IsTrue, zero, suc, List, [], ◌∷◌, ◌++◌, length, slice_get, slice_index, Option, Some, None, ◌⊎◌}
+use Rattle.std.specs.Prelude.{◌≡◌, ◌≢◌, ℕ, ◌↔◌, IsTrue, zero, suc, List, [], ◌∷◌, ◌++◌, length, slice_get, slice_index, Option, Some, None, ◌⊎◌}
 use Rattle.std.specs.Global.{Vec}
 use Rattle.nbt_name.specs.declared.addr.Addr.{Addr}
 use Rattle.nbt_name.specs.declared.addr.Kind.{Kind}
@@ -29,7 +29,7 @@ use Rattle.nbt_world.specs.declared.event.Event.{Event}
 use Rattle.nbt_world.specs.declared.event.Event.TheVariants.{Tick, Advance, Start, Crash, Resume, Ask, Release, Resolve, NameStatus, Poll, Deliver, Stranger, Beside}
 use Rattle.nbt_world.specs.declared.event.Outcome.{Outcome}
 use Rattle.nbt_world.specs.declared.event.Outcome.TheVariants as o
-use Rattle.nbt_world.specs.Drift.{reading, later, least_of, numbers_of, lesser, IsAllowed}
+use Rattle.nbt_world.specs.Drift.{reading, later, least_of, numbers_of, lesser, IsAllowed, IsAllowedTimely}
 use Rattle.nbt_world.specs.World.{WorldValue, addr_of, IsEnd, node_of, IsOfEnd, with_server, with_node, datagram, IsDeliverable}
 
 -- ---- what a node does at an event of its own
@@ -178,13 +178,15 @@ outcome_of_taking world (takes (Some reply)) = o.Sent (length world.sent)
 -- ---- a step
 
 -- The true clock goes on, and each end's reading by its own milliseconds, also while the end is down. The bound is kept
--- still where no end's numbers are more than the bound allows above the least so far.
+-- still where no end's numbers are more than the bound allows above the least so far. The readings are timely still where no end's
+-- first number is, and no node's second.
 pub record Advances (old : WorldValue) (ms : ℕ) (moves : ℕ → ℕ) (new : WorldValue) : Type 0 where
   pub now : new.now.clock ≡ later old.now.clock ms
   pub readings : (number : ℕ) → IsEnd old.ends number → reading new.now number ≡ later (reading old.now number) (moves number)
   pub least : (number : ℕ) → IsEnd old.ends number → least_of new.least number ≡ lesser (least_of old.least number) (numbers_of new.now number)
   pub kept : IsTrue new.kept ↔ (IsTrue old.kept × ((number : ℕ) → IsEnd old.ends number → IsAllowed (least_of new.least number) new.now number))
-  pub others : new ≡ record old { now = new.now; least = new.least; kept = new.kept }
+  pub timely : IsTrue new.timely ↔ (IsTrue old.timely × ((number : ℕ) → IsEnd old.ends number → IsAllowedTimely (least_of new.least number) new.now number))
+  pub others : new ≡ record old { now = new.now; least = new.least; kept = new.kept; timely = new.timely }
 
 pub data Step (old : WorldValue) : Event → Outcome → WorldValue → Type 0 where
   ticks : (ms : ℕ) (new : WorldValue) → Advances old ms (λ number. ms) new → Step old (Tick ms) o.Done new

@@ -53,3 +53,7 @@ ServeUsersAsGroup world = (name : NameValue) (i j : ℕ) → i ≢ j → ServesU
 -- each of these worlds up to which the readings kept the drift bound is such a one
 abbrev pub ServeUsersWhileKept : List WorldValue → Type 0
 ServeUsersWhileKept worlds = All (λ world. IsTrue world.kept → ServeUsersAsGroup world) worlds
+
+-- each of them up to which they were timely is
+abbrev pub ServeUsersWhileTimely : List WorldValue → Type 0
+ServeUsersWhileTimely worlds = All (λ world. IsTrue world.timely → ServeUsersAsGroup world) worlds

@@ -14,7 +14,8 @@ use Rattle.nbt_world.specs.declared.network.Datagram.{Datagram}
 use Rattle.nbt_world.specs.Drift.{reading, least_of, numbers_of}
 
 -- The clocks, the limits, the server and the nodes, each with its address and what it is while it is up, every datagram
--- that was ever sent, in order, the least numbers of each end so far, and whether the readings kept the drift bound.
+-- that was ever sent, in order, the least numbers of each end so far, whether the readings kept the drift bound, and whether
+-- they were timely.
 pub record WorldValue : Type 0 where
   pub now : Clocks
   pub config : ConfigValue
@@ -22,6 +23,7 @@ pub record WorldValue : Type 0 where
   pub sent : List Datagram
   pub least : List Least
   pub kept : Bool
+  pub timely : Bool
 
 -- ---- ends: 0 is the server, and the nodes are numbered from 1
 
@@ -111,6 +113,7 @@ pub record IsFresh (config : ConfigValue) (addrs : List Addr) (world : WorldValu
   pub readings : (number : ℕ) → reading world.now number ≡ 0
   pub least : (number : ℕ) → IsEnd world.ends number → least_of world.least number ≡ numbers_of world.now number
   pub kept : IsTrue world.kept
+  pub timely : IsTrue world.timely
   pub config_is : world.config ≡ config
   pub addrs_are : (number : ℕ) → addr_of world.ends number ≡ slice_get addrs number
   pub no_server : world.ends.server ≡ None

@@ -1,7 +1,7 @@
-//! The true clock of a world, what each end reads, and whether the readings kept the drift bound.
+//! The true clock of a world, what each end reads, whether the readings kept the drift bound, and whether they were timely.
 
-ghost use Rattle.std.specs.Prelude.{◌≡◌, ℕ, ◌+◌, ◌-◌, ◌*◌, ◌^◌, ◌<◌, ◌≤◌, ◌↔◌, IsTrue, slice_index, replicate};
-ghost use Rattle.nbt_world.specs.Drift.{reading, later, least_of, numbers_of, lesser, IsAllowed};
+ghost use Rattle.std.specs.Prelude.{◌≡◌, ◌≢◌, ℕ, ◌+◌, ◌-◌, ◌*◌, ◌^◌, ◌<◌, ◌≤◌, ◌↔◌, IsTrue, slice_index, replicate};
+ghost use Rattle.nbt_world.specs.Drift.{reading, later, least_of, numbers_of, lesser, IsAllowed, IsAllowedTimely};
 
 use nbt_lease::Moment;
 
@@ -107,6 +107,14 @@ impl Least {
         seen.ahead <= self.ahead.saturating_add(MOST)
             && seen.behind <= self.behind.saturating_add(MOST)
     }
+
+    /// Whether the first number of the end of this number grew by no more than the bound allows, and, of a node, the second.
+    fn allows_timely(self, number: usize, seen: Least) -> bool
+        ensures { IsTrue result ↔ ((seen.ahead ≤ self.ahead + 1000) × (number ≢ 0 → seen.behind ≤ self.behind + 1000)) }
+    {
+        seen.ahead <= self.ahead.saturating_add(MOST)
+            && (number == 0 || seen.behind <= self.behind.saturating_add(MOST))
+    }
 }
 
 /// The numbers of all ends where every clock is at 0.
@@ -132,4 +140,20 @@ pub fn watch(least: &mut [Least; 9], clocks: &Clocks, ends: usize) -> bool
         }
     }
     kept
+}
+
+/// Whether each of the first `ends` ends is timely beside all that was seen so far: it isn't faster than the drift bound lets it
+/// be, nor, if it is a node, slower. The server's clock may lag.
+pub fn are_timely(least: &[Least; 9], clocks: &Clocks, ends: usize) -> bool
+    requires { ends ≤ 9 }
+    ensures { IsTrue result ↔ ((number : ℕ) → number < ends → IsAllowedTimely (least_of least.now number) clocks.now number) }
+{
+    let mut timely = true;
+    for number in 0..ends {
+        let seen = Least::of(clocks.clock, clocks.reading(number));
+        if !least[number].allows_timely(number, seen) {
+            timely = false;
+        }
+    }
+    timely
 }

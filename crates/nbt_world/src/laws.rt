@@ -1,6 +1,6 @@
 //! What holds of every world, whatever the code does: laws over the definitions alone.
 
-ghost use Rattle.std.specs.Prelude.{◌≡◌, ◌≢◌, ℕ, ◌+◌, ◌*◌, ◌^◌, ◌<◌, ◌≤◌, suc, List, Some, IsTrue, length};
+ghost use Rattle.std.specs.Prelude.{◌≡◌, ◌≢◌, ℕ, ◌+◌, ◌*◌, ◌^◌, ◌<◌, ◌≤◌, max, suc, List, Some, IsTrue, length};
 ghost use Rattle.nbt_name.specs.Wire.{NameValue, IsStar};
 ghost use Rattle.nbt_lease.specs.Config.{ConfigValue, IsConfig};
 ghost use Rattle.nbt_lease.specs.Drift.{KeepsDriftBound, quiet};
@@ -12,25 +12,27 @@ ghost use Rattle.nbt_world.specs.Inner.Kept.{Invariant};
 ghost use Rattle.nbt_world.specs.Inner.Facts.{LeasesAreSound, ClaimsAreCovered, ClaimsAreOfGroups, OpenIsFresh, RequestsHaveEnded};
 ghost use Rattle.nbt_world.specs.Safety.{IsSafe, RunsSafely, holding};
 ghost use Rattle.nbt_name.specs.declared.addr.Kind.{Kind};
+ghost use Rattle.nbt_world.specs.Drift.{IsNotAhead};
 ghost use Rattle.nbt_world.specs.Step.{Step};
 ghost use Rattle.nbt_world.specs.Getting.{CanGet};
 ghost use Rattle.nbt_world.specs.Shifted.{NodesDoAlike, ServersDoAlike};
-ghost use Rattle.nbt_world.specs.Users.{LetsCallIn, ServesUsers, ServeUsersAsGroup, ServeUsersWhileKept};
+ghost use Rattle.nbt_world.specs.Users.{LetsCallIn, ServesUsers, ServeUsersAsGroup, ServeUsersWhileKept, ServeUsersWhileTimely};
 ghost use Rattle.nbt_world.specs.declared.event.Event.{Event};
 ghost use Rattle.nbt_world.specs.declared.event.Event.TheVariants as event;
 ghost use Rattle.nbt_world.specs.declared.event.Outcome.{Outcome};
 ghost use Rattle.nbt_world.specs.declared.event.Outcome.TheVariants as outcome;
 
-/// What follows from the facts that every world keeps: live leases are sound; and where the readings kept the drift bound
-/// so far, claims are covered by leases or by the silence, two claims on one name are both of a group, what is open is
-/// fresh, old requests have ended, and no two nodes hold one name, unless both as a group.
+/// What follows from the facts that every world keeps: live leases are sound; where the readings kept the drift bound so far,
+/// they were timely; and where they were timely so far, claims are covered by leases or by the silence, two claims on one name
+/// are both of a group, what is open is fresh, old requests have ended, and no two nodes hold one name, unless both as a group.
 pub fn facts_of_every_world()
     ensures sound { (world : WorldValue) → Invariant world → LeasesAreSound world }
-    ensures covered { (world : WorldValue) → Invariant world → IsTrue world.kept → ClaimsAreCovered world }
-    ensures beside { (world : WorldValue) → Invariant world → IsTrue world.kept → ClaimsAreOfGroups world }
-    ensures fresh { (world : WorldValue) → Invariant world → IsTrue world.kept → (number : ℕ) (addr : Addr) (name : NameValue) → addr_of world.ends number ≡ Some addr → OpenIsFresh world number addr name }
-    ensures ended { (world : WorldValue) → Invariant world → IsTrue world.kept → (number : ℕ) (addr : Addr) (name : NameValue) → addr_of world.ends number ≡ Some addr → RequestsHaveEnded world number addr name }
-    ensures safe { (world : WorldValue) → Invariant world → IsTrue world.kept → IsSafe world }
+    ensures timely { (world : WorldValue) → Invariant world → IsTrue world.kept → IsTrue world.timely }
+    ensures covered { (world : WorldValue) → Invariant world → IsTrue world.timely → ClaimsAreCovered world }
+    ensures beside { (world : WorldValue) → Invariant world → IsTrue world.timely → ClaimsAreOfGroups world }
+    ensures fresh { (world : WorldValue) → Invariant world → IsTrue world.timely → (number : ℕ) (addr : Addr) (name : NameValue) → addr_of world.ends number ≡ Some addr → OpenIsFresh world number addr name }
+    ensures ended { (world : WorldValue) → Invariant world → IsTrue world.timely → (number : ℕ) (addr : Addr) (name : NameValue) → addr_of world.ends number ≡ Some addr → RequestsHaveEnded world number addr name }
+    ensures safe { (world : WorldValue) → Invariant world → IsTrue world.timely → IsSafe world }
 {
     nbt_lease::laws::rest_outlasts_datagrams();
 }
@@ -66,14 +68,16 @@ pub fn new_world_can_get()
 
 /// Calls and datagrams for a name go to nodes that hold it. So where two different nodes both let in a call to one name, or
 /// are both handed a datagram up for it, or one does the one and one the other, each by its own reading at the world's time,
-/// both hold it as a group: in each safe world; in each world that keeps its facts and in which the readings kept the drift
-/// bound so far; and in each such world along a run. A node that holds a name does let a call in, at some listener.
+/// both hold it as a group: in each safe world; in each world that keeps its facts and in which the readings were timely so far;
+/// and along a run in each world up to which they were timely, or kept the drift bound. A node that holds a name does let a call
+/// in, at some listener.
 pub fn users_of_a_name_meet_its_holder()
     ensures held { (world : WorldValue) (number : ℕ) (name : NameValue) → ServesUsers world number name → (kind : Kind) × (holding world number name ≡ Some kind) }
     ensures lets_in { (world : WorldValue) (number : ℕ) (name : NameValue) (kind : Kind) → holding world number name ≡ Some kind → LetsCallIn world number name }
     ensures safe { (world : WorldValue) → IsSafe world → ServeUsersAsGroup world }
-    ensures kept { (world : WorldValue) → Invariant world → IsTrue world.kept → ServeUsersAsGroup world }
-    ensures along { (events : List Event) (old new : WorldValue) (worlds : List WorldValue) → RunsSafely events old worlds new → ServeUsersWhileKept worlds }
+    ensures timely { (world : WorldValue) → Invariant world → IsTrue world.timely → ServeUsersAsGroup world }
+    ensures along { (events : List Event) (old new : WorldValue) (worlds : List WorldValue) → RunsSafely events old worlds new → ServeUsersWhileTimely worlds }
+    ensures along_kept { (events : List Event) (old new : WorldValue) (worlds : List WorldValue) → RunsSafely events old worlds new → ServeUsersWhileKept worlds }
 {
     nbt_session::laws::calls_go_to_held_names();
 }
@@ -96,4 +100,26 @@ pub fn ends_do_the_same_by_shifted_clocks()
 pub fn bound_lasts_over_a_pause()
     ensures { (true_then read_then true_now read_now pause true_later read_later : ℕ) → KeepsDriftBound true_then read_then true_now read_now
         → 1000 ≤ pause → KeepsDriftBound (true_now + pause) (read_now + pause) true_later read_later → KeepsDriftBound true_then read_then true_later read_later }
+{}
+
+/// A clock that isn't faster than the drift bound lets it be stays so over a pause in which it moved by no more than the true
+/// one and its thousandth, less a millisecond: by a millisecond less for any pause, and by as much for one of a second or longer.
+/// So a server that was down can be followed by one whose clock is behind it by any time.
+pub fn not_ahead_lasts_over_a_pause()
+    ensures { (true_then read_then true_now read_now pause moved true_later read_later : ℕ) → IsNotAhead true_then read_then true_now read_now
+        → 1000 * moved + 1000 ≤ 1001 * pause → IsNotAhead (true_now + pause) (read_now + moved) true_later read_later → IsNotAhead true_then read_then true_later read_later }
+{}
+
+/// A clock stands, and another one begins in its place after a pause. From then on the place reads the greater of what the first
+/// one read last and what the second one reads. If the second one begins below the first one's last reading and the pause
+/// together, the place isn't ahead of any time that the first one wasn't ahead of. So the second one may begin at that reading
+/// after a pause of a millisecond or longer, and anywhere below it after any pause or none. (At that reading and after no pause
+/// the place can be a millisecond ahead.) Between two later times between which the second one isn't ahead, the place isn't
+/// either, and it never goes back.
+pub fn a_clock_that_stood_is_not_ahead()
+    ensures stood { (true_then read_then true_now read_now pause from true_later read_later : ℕ) → IsNotAhead true_then read_then true_now read_now → from < read_now + pause
+        → true_now + pause ≤ true_later → IsNotAhead (true_now + pause) from true_later read_later → IsNotAhead true_then read_then true_later (max read_now read_later) }
+    ensures later { (read_now true_early read_early true_later read_later : ℕ) → true_early ≤ true_later → IsNotAhead true_early read_early true_later read_later
+        → IsNotAhead true_early (max read_now read_early) true_later (max read_now read_later) }
+    ensures onward { (read_now read_early read_later : ℕ) → read_early ≤ read_later → (read_now ≤ max read_now read_early) × (max read_now read_early ≤ max read_now read_later) }
 {}

@@ -13,7 +13,7 @@ ghost use Rattle.nbt_world.specs.Inner.Handing.{Origin, HandsOver};
 ghost use Rattle.nbt_world.specs.declared.event.Outcome.TheVariants as outcome;
 ghost use Rattle.nbt_world.specs.declared.ends.Holder.{Holder as HolderValue};
 
-use crate::clocks::{Clocks, ENDS_MOST, Least, at_beginning, watch};
+use crate::clocks::{Clocks, ENDS_MOST, Least, are_timely, at_beginning, watch};
 use crate::ends::{Ends, Holder, are_apart};
 use crate::event::{Event, OutOfMemory, Outcome};
 use crate::network::{Datagram, give, reply, spell_move};
@@ -45,6 +45,7 @@ pub struct World {
     sent: Vec<Datagram>,
     least: [Least; 9],
     kept: bool,
+    timely: bool,
 }
 
 impl Model for World {
@@ -53,9 +54,9 @@ impl Model for World {
 
     ghost Value = { WorldValue };
 
-    ghost view = { λ w. record { now = w.clocks; config = w.config; ends = w.ends; sent = w.sent.items; least = w.least; kept = w.kept } };
+    ghost view = { λ w. record { now = w.clocks; config = w.config; ends = w.ends; sent = w.sent.items; least = w.least; kept = w.kept; timely = w.timely } };
 
-    ghost invariant = { λ w. Invariant (record { now = w.clocks; config = w.config; ends = w.ends; sent = w.sent.items; least = w.least; kept = w.kept }) };
+    ghost invariant = { λ w. Invariant (record { now = w.clocks; config = w.config; ends = w.ends; sent = w.sent.items; least = w.least; kept = w.kept; timely = w.timely }) };
 }
 
 /// What comes of a change of an end, where it was made and where there was nothing to do.
@@ -91,6 +92,7 @@ impl World {
             sent: Vec::new(alloc),
             least: at_beginning(),
             kept: true,
+            timely: true,
         })
     }
 
@@ -105,7 +107,9 @@ impl World {
         self.clocks.go_on(ms, readings);
         let ends = self.ends.nodes.len() + 1;
         let allowed = watch(&mut self.least, &self.clocks, ends);
+        let timely = are_timely(&self.least, &self.clocks, ends);
         self.kept = self.kept && allowed;
+        self.timely = self.timely && timely;
     }
 
     /// All clocks go on alike.
@@ -260,9 +264,11 @@ impl World {
     /// What happens next: the clocks go on, an end starts or crashes, a node does something of its own, a datagram of
     /// the list is delivered, or one comes from a stranger. Returns what came of it. With `OutOfMemory`, where room for
     /// one datagram more was refused, the world is as it was. A `Tick`, `Advance`, `Start`, `Crash` or `Resume` takes no
-    /// memory. No two nodes hold one name afterwards, unless both as a group, where `kept` answers true.
+    /// memory. No two nodes hold one name afterwards, unless both as a group, where `timely` answers true, and so where
+    /// `kept` does.
     pub fn step(&mut self, event: &Event) -> Result<Outcome, OutOfMemory>
         ensures step { IfOk result (λ outcome. Step self.old event.now outcome self.new) }
+        ensures safe_timely { IsTrue self.new.timely → IsSafe self.new }
         ensures safe { IsTrue self.new.kept → IsSafe self.new }
         ensures refused { OnErr result (self.new ≡ self.old) }
         ensures memory { TakesNoMemory event.now → IsOk result }
@@ -288,7 +294,7 @@ impl World {
 
     /// The events in order, as far as memory is there. With `OutOfMemory`, the number of the event that it was refused
     /// to, which is no `Tick`, `Advance`, `Start`, `Crash` or `Resume`: the world is then as after those before it. In no world along
-    /// the run up to which the drift bound was kept do two nodes hold one name, unless both as a group.
+    /// the run up to which the readings were timely, or kept the drift bound, do two nodes hold one name, unless both as a group.
     pub fn run(&mut self, events: &[Event]) -> Result<(), (usize, OutOfMemory)>
         ensures ran { OnOk result ((worlds : List WorldValue) × Run events.now self.old worlds self.new × RunsSafely events.now self.old worlds self.new) }
         ensures stopped { IfErr result (λ stop. (stop.0 < length events.now) × (worlds : List WorldValue) × Run (take stop.0 events.now) self.old worlds self.new × RunsSafely (take stop.0 events.now) self.old worlds self.new) }
@@ -339,9 +345,10 @@ impl World {
         self.ends.limit_clients(rows)
     }
 
-    /// What the facts that every world keeps come to: no two nodes hold one name, unless both as a group, where the drift
-    /// bound was kept so far.
+    /// What the facts that every world keeps come to: no two nodes hold one name, unless both as a group, where the readings
+    /// were timely so far, as they were where they kept the drift bound.
     fn is_safe(&self)
+        ensures safe_timely { IsTrue self.now.timely → IsSafe self.now }
         ensures safe { IsTrue self.now.kept → IsSafe self.now }
         ensures read { AreRead self.now }
     {
@@ -360,10 +367,11 @@ impl World {
     }
 
     /// Whether these two, if they are different nodes, don't both hold the name now, each by its own reading, unless both as
-    /// a group. It is true wherever `kept` is: what shows it is `step`, `run` and `holders`, and not this call's result.
+    /// a group. It is true wherever `timely` is: what shows it is `step`, `run` and `holders`, and not this call's result.
     pub fn no_two_holders(&self, i: usize, j: usize, name: &Name) -> bool
         ensures exactly { IsTrue result ↔ MayHold self.now i j name.now }
-        ensures always { IsTrue self.now.kept → IsTrue result }
+        ensures always { IsTrue self.now.timely → IsTrue result }
+        ensures kept { IsTrue self.now.kept → IsTrue result }
     {
         self.is_safe();
         if i == j {
@@ -398,6 +406,18 @@ impl World {
         ensures { result ≡ self.now.kept }
     {
         self.kept
+    }
+
+    /// Whether the readings of all ends were timely so far: between any two such worlds, with d and c as for `kept`, 1000 (c - d)
+    /// was at most d + 1000 for each end, and 1000 (d - c) for each node. So no clock was too fast, and no node's too slow: the
+    /// server's may be slow or stand still, by any time. It is true wherever `kept` is, and once it is false it stays so. Where it
+    /// is true, no two nodes hold one name, unless both as a group. Takes no memory.
+    pub fn timely(&self) -> bool
+        ensures told { result ≡ self.now.timely }
+        ensures kept { IsTrue self.now.kept → IsTrue result }
+    {
+        self.is_safe();
+        self.timely
     }
 
     /// What the end of this number reads; 0 where there is none. Takes no memory.

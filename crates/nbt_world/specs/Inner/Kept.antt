@@ -22,7 +22,7 @@ use Rattle.nbt_world.specs.declared.clocks.Clocks.{Clocks}
 use Rattle.nbt_world.specs.declared.clocks.Least.{Least}
 use Rattle.nbt_world.specs.declared.ends.Ends.{Ends}
 use Rattle.nbt_world.specs.declared.network.Datagram.{Datagram}
-use Rattle.nbt_world.specs.Drift.{reading, ahead, behind, least_of, IsAllowed}
+use Rattle.nbt_world.specs.Drift.{reading, ahead, behind, least_of, IsAllowed, IsAllowedTimely}
 use Rattle.nbt_world.specs.World.{WorldValue, nodes_most, IsDeliverable, addr_of, IsEnd, node_of, latest}
 
 -- ---- what the network has of one node and one name
@@ -203,12 +203,14 @@ pub record IsSeen (least : List Least) (now moment : Clocks) (number : ℕ) : Ty
   pub least_behind : (least_of least number).behind ≤ behind moment number
 
 -- No clock is past its last moment, the numbers of each end now are no less than its least, and allowed beside them where
--- the bound is kept.
+-- the bound is kept, or where the readings are timely, as they are where the bound is kept.
 pub record AreRead (world : WorldValue) : Type 0 where
   pub now : world.now.clock ≤ last_moment
   pub readings : (number : ℕ) → IsEnd world.ends number → reading world.now number ≤ last_moment
   pub seen : (number : ℕ) → IsEnd world.ends number → IsSeen world.least world.now world.now number
   pub allowed : IsTrue world.kept → (number : ℕ) → IsEnd world.ends number → IsAllowed (least_of world.least number) world.now number
+  pub allowed_timely : IsTrue world.timely → (number : ℕ) → IsEnd world.ends number → IsAllowedTimely (least_of world.least number) world.now number
+  pub kept_timely : IsTrue world.kept → IsTrue world.timely
 
 -- Each datagram was sent by an end, not later than now, and is the written form of a message that it spells, and no
 -- other; and no end overwrites.
@@ -247,9 +249,9 @@ pub record Invariant (world : WorldValue) : Type 0 where
   pub nodes : (number : ℕ) (addr : Addr) (node : NodeValue) → addr_of world.ends number ≡ Some addr → node_of world.ends number ≡ Some node → IsNodeOf world number addr node
   pub server : (server : ServerValue) → latest world.ends ≡ Some server → IsServerOf world server
   pub sent : (d : Datagram) → Contains world.sent d → IsSent world.ends world.now world.least d
-  -- where the readings kept the drift bound so far
-  pub requests : IsTrue world.kept → (number : ℕ) (addr : Addr) (name : NameValue) → addr_of world.ends number ≡ Some addr
+  -- where the readings were timely so far
+  pub requests : IsTrue world.timely → (number : ℕ) (addr : Addr) (name : NameValue) → addr_of world.ends number ≡ Some addr
       → RequestsEnded world.config.life number world.now.clock (reading world.now number) (Asked world.sent addr.ip name) (known (node_of world.ends number) name)
-  pub replies : IsTrue world.kept → (number : ℕ) (addr : Addr) (name : NameValue) → addr_of world.ends number ≡ Some addr
+  pub replies : IsTrue world.timely → (number : ℕ) (addr : Addr) (name : NameValue) → addr_of world.ends number ≡ Some addr
       → RepliesFresh world.config.life number world.now.clock (reading world.now number) (Asked world.sent addr.ip name) (Replied world.sent world.ends.server_addr addr name) (known (node_of world.ends number) name)
-  pub claims : IsTrue world.kept → ClaimsKept world
+  pub claims : IsTrue world.timely → ClaimsKept world

@@ -5,6 +5,9 @@ use Rattle.nbt_world.proofs.laws.facts_of_every_world.Goals as goal
 pub returns-clause-sound : goal.returns-clause-sound
 returns-clause-sound c = λ world kept server up. (kept.server server up).sound
 
+pub returns-clause-timely : goal.returns-clause-timely
+returns-clause-timely c = λ world kept. kept.clocks.kept_timely
+
 pub returns-clause-covered : goal.returns-clause-covered
 returns-clause-covered c = claims_covered
 

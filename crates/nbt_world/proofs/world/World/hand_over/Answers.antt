@@ -4,11 +4,11 @@ use Rattle.nbt_world.proofs.Keeping.{latest-up}
 use Rattle.nbt_world.proofs.Granting.{LeaseLaws}
 use Rattle.nbt_world.proofs.world.World.hand_over.Goals as goal
 
-took : (c : goal.After-reply) → Took (record { now = c.self.inside.clocks; config = c.self.inside.config; ends = c.self.inside.ends; sent = c.self.inside.sent.items; least = c.self.inside.least; kept = c.self.inside.kept }) c.args.from c.args.to
+took : (c : goal.After-reply) → Took (record { now = c.self.inside.clocks; config = c.self.inside.config; ends = c.self.inside.ends; sent = c.self.inside.sent.items; least = c.self.inside.least; kept = c.self.inside.kept; timely = c.self.inside.timely }) c.args.from c.args.to
     c.args.octets.now c.args.number c.take-taken.new.self c.reply.new.sent.items c.reply.result
 took c =
     let t = c.take-taken.ensures in
-    let r = c.reply.ensures (record { now = c.self.inside.clocks; config = c.self.inside.config; ends = c.self.inside.ends; sent = c.self.inside.sent.items; least = c.self.inside.least; kept = c.self.inside.kept }) c.take-taken.new.self t.0 (sym c.try_reserve.ensures.items) refl t.2 in
+    let r = c.reply.ensures (record { now = c.self.inside.clocks; config = c.self.inside.config; ends = c.self.inside.ends; sent = c.self.inside.sent.items; least = c.self.inside.least; kept = c.self.inside.kept; timely = c.self.inside.timely }) c.take-taken.new.self t.0 (sym c.try_reserve.ensures.items) refl t.2 in
     record { taken = t.0; at = rw (← c.self.view_is) at c.requires.there; does = rw c.reading-now.ensures at t.1; origin = rw (← c.self.view_is) at c.requires.origin; outcome_is = r.0; left = r.1 }
 
 laws : (c : goal.After-reply) → LeaseLaws

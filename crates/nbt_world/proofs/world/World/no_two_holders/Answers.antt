@@ -36,7 +36,7 @@ returns-in-Some-Some-clause-exactly c = (
 pub returns-in-Some-Some-clause-always : goal.returns-in-Some-Some-clause-always
 returns-in-Some-Some-clause-always c = λ on. absurd
     (other_kinds (sym (second_unique c)
-    ∙ (c.is_safe.ensures.safe on c.args.name.now c.args.i c.args.j c.in-Some-Some.field-0-0 c.in-Some-Some.field-0-1 c.if-i-j.false (sym c.in-Some-Some.ensures) (sym c.in-Some-Some.ensures')).1))
+    ∙ (c.is_safe.ensures.safe_timely on c.args.name.now c.args.i c.args.j c.in-Some-Some.field-0-0 c.in-Some-Some.field-0-1 c.if-i-j.false (sym c.in-Some-Some.ensures) (sym c.in-Some-Some.ensures')).1))
 
 pub returns-in-Some-Some-2-clause-exactly : goal.returns-in-Some-Some-2-clause-exactly
 returns-in-Some-Some-2-clause-exactly c = (
@@ -47,7 +47,7 @@ returns-in-Some-Some-2-clause-exactly c = (
 pub returns-in-Some-Some-2-clause-always : goal.returns-in-Some-Some-2-clause-always
 returns-in-Some-Some-2-clause-always c = λ on. absurd
     (other_kinds (sym (first_unique c)
-    ∙ (c.is_safe.ensures.safe on c.args.name.now c.args.i c.args.j c.in-Some-Some.field-0-0 c.in-Some-Some.field-0-1 c.if-i-j.false (sym c.in-Some-Some.ensures) (sym c.in-Some-Some.ensures')).0))
+    ∙ (c.is_safe.ensures.safe_timely on c.args.name.now c.args.i c.args.j c.in-Some-Some.field-0-0 c.in-Some-Some.field-0-1 c.if-i-j.false (sym c.in-Some-Some.ensures) (sym c.in-Some-Some.ensures')).0))
 
 pub returns-in_default-clause-exactly : goal.returns-in_default-clause-exactly
 returns-in_default-clause-exactly c = (λ t k l ne p q. absurd (none-some l (sym c.in_default.is-1 ∙ c.holding-2.ensures ∙ q)), λ may. refl)

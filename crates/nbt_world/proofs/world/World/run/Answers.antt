@@ -5,14 +5,14 @@ use Rattle.nbt_world.proofs.Going.{along_first, along_next, runs_safely, runs_wh
 use Rattle.nbt_world.proofs.world.World.run.Goals as goal
 
 pub loop-number-init : goal.loop-number-init
-loop-number-init c = (c.args.self.now ∷ [], ends c.args.self.now, along_first c.args.self.now c.is_safe.ensures.read c.is_safe.ensures.safe)
+loop-number-init c = (c.args.self.now ∷ [], ends c.args.self.now, along_first c.args.self.now c.is_safe.ensures.read c.is_safe.ensures.safe_timely c.is_safe.ensures.safe)
 
 pub loop-number-preserved : goal.loop-number-preserved
 loop-number-preserved c =
     let before = c.loop-number.invariant in (
       _,
       run_next c.args.events.now c.loop-number.number c.loop-number-test.true c.index-events-number.is before.1 c.in-Ok.ensures.step,
-      along_next c.args.events.now c.loop-number.number c.loop-number-test.true c.index-events-number.is c.in-Ok.ensures.step c.step.ensures.safe before.2,
+      along_next c.args.events.now c.loop-number.number c.loop-number-test.true c.index-events-number.is c.in-Ok.ensures.step c.step.ensures.safe_timely c.step.ensures.safe before.2,
     )
 
 pub returns-in-Err-clause-stopped : goal.returns-in-Err-clause-stopped
