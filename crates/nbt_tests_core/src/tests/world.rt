@@ -460,6 +460,33 @@ const READINGS_OF_ITS_ENDS: [Row; 1] = [(
     Done,
 )];
 
+/// The server's clock stands from 60,000 on, while the true one and the nodes' come to 160,000.
+const WHILE_THE_SERVER_STANDS: [Row; 1] = [(
+    Advance(100_000, [0, 100_000, 100_000, 0, 0, 0, 0, 0, 0]),
+    Done,
+)];
+
+/// The second node asks, and is refused, since the lease lives by the server's clock.
+const REFUSED_WHILE_IT_STANDS: [Row; 3] = [
+    (Ask(2, FRED), Sent(2)),
+    (Deliver(2), Sent(3)),
+    (Deliver(3), Taken),
+];
+
+/// The server's clock goes on, and at its 120,000 it grants the name to the second node.
+const GRANTED_ONCE_IT_GOES_ON: [Row; 4] = [
+    (Tick(60_000), Done),
+    (Ask(2, FRED), Sent(4)),
+    (Deliver(4), Sent(5)),
+    (Deliver(5), Taken),
+];
+
+/// The server's clock makes up for the time for which it stood.
+const CAUGHT_UP: [Row; 1] = [(
+    Advance(100_000, [200_000, 100_000, 100_000, 0, 0, 0, 0, 0, 0]),
+    Done,
+)];
+
 const UP_WITH_TWO_NODES: [Row; 3] = [(Start(0), Done), (Start(1), Done), (Start(2), Done)];
 
 /// The first node is granted FRED, and refused TEAM, which the second is granted.
@@ -510,6 +537,8 @@ enum Part {
     Team(&'static [usize]),
     /// The true clock shows this, and the readings of the ends kept within their bound, or they didn't.
     Clock(u64, bool),
+    /// No end's clock was too fast so far, and no node's too slow, or one was.
+    Timely(bool),
     /// Packets of every kind, cut to each shorter length, come from the stranger 127.0.0.2 to an end.
     Cut(usize),
     /// From now on a client may have so many names, if the server is up, which is said.
@@ -532,6 +561,7 @@ fn play_part<R: Abort + AllocGlobal>(rt: &R, what: &str, world: &mut World, part
             expect_eq_in(rt, &what, &world.clock().get(), &ms);
             expect_eq_in(rt, &what, &world.kept(), &kept);
         }
+        Part::Timely(timely) => expect_eq_in(rt, &what, &world.timely(), &timely),
         Part::Cut(to) => cut(rt, world, to),
         Part::Limit(rows, is_up) => {
             expect_eq_in(rt, &what, &world.limit_clients(rows), &is_up);
@@ -661,6 +691,23 @@ const ENDS_AND_STRANGERS: &[Case] = &[
             Part::Clock(90_000, true),
             Part::Rows(&READINGS_OF_ITS_ENDS),
             Part::Clock(91_000, false),
+            Part::Timely(false),
+        ],
+    ),
+    (
+        "a lease doesn't end while the server's clock stands, which is timely until it catches up",
+        &ENDS,
+        &[
+            Part::Held(&[
+                (&ASKED, &[1]),
+                (&WHILE_THE_SERVER_STANDS, &[]),
+                (&REFUSED_WHILE_IT_STANDS, &[]),
+                (&GRANTED_ONCE_IT_GOES_ON, &[2]),
+            ]),
+            Part::Clock(220_000, false),
+            Part::Timely(true),
+            Part::Rows(&CAUGHT_UP),
+            Part::Timely(false),
         ],
     ),
 ];
@@ -686,6 +733,48 @@ fn play_cases<R: Abort + AllocGlobal>(rt: &R, cases: &[Case]) {
 fn events_and_what_comes_of_them(rt: HostRuntime) {
     play_cases(&rt, holds());
     play_cases(&rt, ends_and_strangers())
+}
+
+/// By how many milliseconds the server's clock and the first node's go on in a second of the true one; and whether they kept the
+/// drift bound, and whether they were timely.
+type Pace = (u64, u64, bool, bool);
+
+const PACES: &[Pace] = &[
+    (1_002, 998, true, true),
+    (998, 1_002, true, true),
+    (997, 1_000, false, true),
+    (0, 1_000, false, true),
+    (0, 1_002, false, true),
+    (1_003, 1_000, false, false),
+    (2_000, 1_000, false, false),
+    (1_000, 997, false, false),
+    (1_000, 0, false, false),
+    (0, 0, false, false),
+    (1_000, 1_003, false, false),
+];
+
+fn paces() -> &'static [Pace] {
+    PACES
+}
+
+/// The clocks of a new world go on like this, and the second node's like the true one.
+fn play_pace<R: Abort + AllocGlobal>(rt: &R, pace: &Pace) {
+    let (server, node, kept, timely) = *pace;
+    let mut world = world(rt);
+    let event = Event::Advance {
+        ms: 1_000,
+        readings: [server, node, 1_000, 0, 0, 0, 0, 0, 0],
+    };
+    expect_eq(rt, &world.step(&event).expect(rt, "step"), &Done);
+    expect_eq_in(rt, pace, &world.kept(), &kept);
+    expect_eq_in(rt, pace, &world.timely(), &timely)
+}
+
+#[test]
+fn a_server_may_be_slow_and_a_node_may_not(rt: HostRuntime) {
+    for pace in paces() {
+        play_pace(&rt, pace);
+    }
 }
 
 const SAME: [Addr; 2] = [
