@@ -264,7 +264,7 @@ by a socket for each: standard error says when one comes or goes. --bind 0.0.0.0
 and whose replies leave from the address that the system chooses.
 
 ADDR is A.B.C.D or A.B.C.D:PORT; for port 0 the system chooses one, which the first line has. TIME is a number and its unit, as
-1500ms, 300s or 5m. The longest lease must be at least 10 s and at least 20 lives of a datagram, else a hold would lapse before it
+1500ms, 300s or 5m. The longest lease must be at least 30 s and at least 20 lives of a datagram, else a hold would lapse before it
 can be refreshed. If it is above an hour, and without --state, standard error says for how long each start is silent.
 
 --log prints lines as `2026-11-24T09:12:03Z granted FILER#20 192.0.2.7 unique 300 s`; `renewed`, `refused` with the sender and

@@ -5,7 +5,7 @@ ghost use Rattle.nbt_nbns.specs.Limits.{holds_least, lives_least, longest_quiet}
 
 use crate::limits::{HOLDS_LEAST, LIVES_LEAST, LONGEST_QUIET};
 
-/// The longest lease is 10 s and 20 lives of a datagram at least, and above 3,600 s a warning says how long a server is silent
+/// The longest lease is 30 s and 20 lives of a datagram at least, and above 3,600 s a warning says how long a server is silent
 /// (our profile).
 pub fn numbers()
     ensures holds { HOLDS_LEAST ≡ holds_least }

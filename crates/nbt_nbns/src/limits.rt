@@ -8,7 +8,7 @@ use nbt_lease::Config;
 use std::alloc::AllocError;
 
 /// How many seconds the longest lease has at least (our profile).
-pub const HOLDS_LEAST: u32 = 10;
+pub const HOLDS_LEAST: u32 = 30;
 
 /// How many lives of a datagram it lasts at least (our profile).
 pub const LIVES_LEAST: u64 = 20;
@@ -27,8 +27,9 @@ pub enum Judged {
     Long,
 }
 
-/// Judges the longest lease: `Short` where it is under 20 lives of a datagram, or under 10 s; else `Long` where it is above an
-/// hour. A node refreshes its hold when half of it has passed, and needs some lives of a datagram for that (our profile).
+/// Judges the longest lease: `Short` where it is under 20 lives of a datagram, or under 30 s; else `Long` where it is above an
+/// hour. A node refreshes its hold when half of the seconds have passed, and sends the refresh up to three times, one every 5 s: with
+/// these limits a reply to the third still comes within the hold (our profile).
 pub fn judge(config: Config) -> Judged
     ensures { result ≡ judged config }
 {
@@ -50,7 +51,7 @@ pub fn write_refusal(config: Config, out: &mut String) -> Result<(), AllocError>
     let life = config.life();
     write!(
         out,
-        "longest lease {longest} s, life of a datagram {life} ms: it has to be 10 s and 20 lives at least, else a hold would lapse before it can be refreshed"
+        "longest lease {longest} s, life of a datagram {life} ms: it has to be 30 s and 20 lives at least, else a hold would lapse before it can be refreshed"
     )
 }
 

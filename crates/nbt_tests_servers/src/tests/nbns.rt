@@ -1306,12 +1306,12 @@ fn a_port_that_can_not_be_had(rt: HostRuntime) {
 /// The life of a datagram in milliseconds, the longest lease in seconds, and what is said of them.
 const JUDGED: [(u64, u32, Judged); 9] = [
     (1_000, 300, Judged::Fits),
-    (1_000, 20, Judged::Fits),
-    (1_000, 19, Judged::Short),
-    (1, 10, Judged::Fits),
-    (1, 9, Judged::Short),
-    (999, 19, Judged::Short),
-    (950, 19, Judged::Fits),
+    (2_000, 40, Judged::Fits),
+    (2_000, 39, Judged::Short),
+    (1, 30, Judged::Fits),
+    (1, 29, Judged::Short),
+    (1_999, 39, Judged::Short),
+    (1_950, 39, Judged::Fits),
     (1_000, 3_600, Judged::Fits),
     (1_000, 3_601, Judged::Long),
 ];
@@ -1346,6 +1346,6 @@ fn what_is_said_at_first(rt: HostRuntime) {
     expect_eq(
         &rt,
         &text.as_str(),
-        &"serving 127.0.0.2:137, silent for 300 s until 2026-11-24T09:17:03Z\nserving 127.0.0.2:137, 127.0.0.3:1024, silent for 20 s until 2026-11-24T09:17:03Z\nlongest lease 20 s, life of a datagram 1500 ms: it has to be 10 s and 20 lives at least, else a hold would lapse before it can be refreshed\nlongest lease 7200 s: after each start the server is silent for as long",
+        &"serving 127.0.0.2:137, silent for 300 s until 2026-11-24T09:17:03Z\nserving 127.0.0.2:137, 127.0.0.3:1024, silent for 20 s until 2026-11-24T09:17:03Z\nlongest lease 20 s, life of a datagram 1500 ms: it has to be 30 s and 20 lives at least, else a hold would lapse before it can be refreshed\nlongest lease 7200 s: after each start the server is silent for as long",
     );
 }
