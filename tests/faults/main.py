@@ -15,7 +15,7 @@ import faults
 import judge
 from cases import CASES, wrong_cases
 from packets import GROUP, UNIQUE
-from play import CONTENDED, GROUPS, Play
+from play import CONTENDED, GROUPS, QUIET, Play
 from programs import Host, Nmbd
 
 SHOWN = 5  # how many of what should not have been are printed
@@ -88,7 +88,7 @@ class Report:
         if not self.is_calm_beside():
             self.row("each name that one may hold was held by several hosts, one after the other", self.names_of_few(play.contended))
         self.row("each group was held by several hosts at once", [name for name in GROUPS if not self.is_shared(name)])
-        self.row("after the faults each name was held, and each group by all hosts", [] if play.settled else ["not after 90 s"])
+        self.row("after the faults each name was held, and each group by all hosts", [] if play.settled else [f"not after {QUIET} s"])
 
     def is_calm_beside(self):
         """Whether nothing but the server is touched by faults, so that no host has a reason to lose a name."""
@@ -181,8 +181,9 @@ def main(run, net, nbt, work, minutes, seed, hosts, rival, control, state, disk,
     folder = f"{work}/state" if state else None
     silence = control and not state  # a premise is broken: the server's silence is too short
     lies = control and state  # another is: a sync does nothing
-    # Where no host may lose a name, a refresh that comes while the server is down is sent again in time.
-    longest = 20 if silence else 60 if state == "server" else 10
+    # Where a silence is to be too short, the server starts again with half of it, which it must accept. Where no host may lose a name, a
+    # refresh that comes while the server is down is sent again in time.
+    longest = 60 if silence or state == "server" else 30
     rates = faults.rates_of(state, float(rate))
     play = Play(run, net, nbt, work, seed, 2 if silence else int(hosts), longest, rival, rates, folder, disk, lies)
     try:

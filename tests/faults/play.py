@@ -22,7 +22,7 @@ GROUPS = ["TEAM", "STAFF"]
 ASKS_HOSTS, ASKS_GROUPS, ASKS_PAUSED, ASKS_SERVER, CHECKS = 0.2, 2.0, 1.0, 0.5, 1.0  # seconds between questions
 PATIENCE = 1.0  # how long a health check waits for its reply
 MANY = 64  # how many datagrams are read at once at most
-QUIET = 90  # for how many seconds the hosts may take to get all free names once the faults are over
+QUIET = 120  # for how many seconds the hosts may take to get all free names once the faults are over
 
 
 class Play:
@@ -334,7 +334,7 @@ class Play:
     def control(self):
         """Breaks a premise: the server is silent for half as long as it granted names for. The holder is cut off meanwhile."""
         self.begin()
-        self.play_until(self.book.begun + 60, lambda: self.last_line("renewed", CONTENDED[0]))
+        self.play_until(self.book.begun + self.longest + 40, lambda: self.last_line("renewed", CONTENDED[0]))
         renewed = self.last_line("renewed", CONTENDED[0])
         if not renewed:
             return

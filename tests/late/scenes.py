@@ -18,7 +18,7 @@ import network  # noqa: E402
 import packets  # noqa: E402
 from relay import Relay  # noqa: E402
 
-LIFE, LONGEST = "500ms", 20  # the greatest life of a datagram, and the longest lease, in seconds
+LIFE, LONGEST = "500ms", 30  # the greatest life of a datagram, and the longest lease, in seconds
 SOON = 2.0  # what a host does at once it does within so many seconds
 NAME = "FILER"
 ROWS, SHARE = 4096, 64  # a server's rows, and how many of them one client may have
