@@ -7,6 +7,7 @@ pub mod Told
 -- a server that resumes with what was kept
 pub mod Resumed
 -- what waits leaves, and what a datagram makes of a server and of what waits
+mod Never
 mod Leaving
 mod Taking
 mod Passed
@@ -15,6 +16,8 @@ mod Looked
 mod Stayed
 -- what is kept where a server's live leases are written in place of all
 mod Renewed
+-- what was left out of a list, and the last time of changes
+mod Left
 -- what a crash leaves, call by call, and of whole runs
 mod Crashes
 mod Runs

@@ -1,122 +1,163 @@
 -- One turn, by what its parts returned.
-use Rattle.std.proofs.Common.{◌≡◌, ℕ, Bool, true, false, not, ◌&&◌, ◌||◌, List, [], ◌∷◌, ◌++◌, length, refl, sym, ap, subst, ◌∙◌, Option, Some, Result, Ok, Err, ◌<◌, ◌≤◌, arith}
-use Rattle.std.specs.Prelude.{is_some, nat_le, OnOk, OnErr, IfErr}
+use Rattle.std.proofs.Common.{◌≡◌, ℕ, ◌+◌, Bool, true, false, not, ◌||◌, List, [], ◌∷◌, ◌++◌, length, map, refl, sym, ap, subst, ◌∙◌, Option, None, Some, Result, Ok, Err, ◌<◌, ◌≤◌, arith}
+use Rattle.std.specs.Prelude.{is_some, nat_le, OnOk, OnErr, IfErr, IfSome}
+use Rattle.std.specs.List.{flat_map}
 use Rattle.std.proofs.lemmas.Bool.{leb-false}
-use Rattle.std.proofs.lemmas.List.{append-nil, length-append}
+use Rattle.std.proofs.lemmas.List.{append-nil, length-append, map-append}
 use Rattle.nbt_name.specs.declared.addr.Addr.{Addr}
-use Rattle.nbt_port.specs.Memory.{DatagramValue}
-use Rattle.nbt_port.specs.PortCalls.{PortCall, receive_failed, send_failed, Chain}
+use Rattle.nbt_log.specs.declared.entry.Entry.{Entry}
+use Rattle.nbt_port.specs.PortCalls.{PortCall, came, receive_failed, send_failed, Chain}
 use Rattle.nbt_port.proofs.Chains.{chain-append}
+use Rattle.nbt_server.specs.Serving.{ServerValue}
 use Rattle.nbt_store.specs.declared.change.Change.{Change}
+use Rattle.nbt_store.specs.declared.change.Change.TheVariants.{Reached}
 use Rattle.nbt_store.specs.declared.store.Broken.{Broken}
 use Rattle.nbt_store.specs.Calls.{StoreCall, appending, append_failed}
-use Rattle.nbt_serve.specs.Serving.{Turn}
+use Rattle.nbt_serve.specs.Serving.{Turn, moments_in}
 use Rattle.nbt_keep.specs.Devices.{DeviceCall, on_port, on_store, DeviceDoes}
-use Rattle.nbt_keep.specs.Waiting.{WaitingValue, batch, none_waits, dropped, sends_of, leaving}
-use Rattle.nbt_keep.specs.Turning.{Took, reply_in, receive_in, is_unanswered, appends_of, taking, with_reply, Passes, waits, all_leave, LeavingFails, sync_fails, send_fails, Fails, leaving_fails, append_fails}
-use Rattle.nbt_keep.specs.Inner.Passing.{is_due, Leaves, still_wait, now_leave, reply_to, behind, with_change}
+use Rattle.nbt_keep.specs.Waiting.{ReplyValue, WaitingValue, batch, IsClear, with_line, all_durable, dropped, lay_down, LineFails, sends_of, timely}
+use Rattle.nbt_keep.specs.Turning.{Took, NeverWaits, before_it, with_any, with_reply, behind, reply_in, receive_in, reached, is_unanswered, appends_of, stores, taking, Passes, waits, at_once, all_leave, LeavingFails, sync_fails, send_fails, Fails, reaching_fails, leaving_fails, sending_fails, append_fails, BreaksKeeping}
+use Rattle.nbt_keep.specs.Inner.Passing.{is_any, is_due, Leaves, still_wait, now_leave, GoesAtOnce, PassesOn, goes, leaves, PassingFails, not_sent, not_left, reply_to}
+use Rattle.nbt_keep.specs.Inner.Taking.{FailsToTake, in_reaching, in_appending}
 use Rattle.nbt_keep.specs.declared.fault.KeepFault.{KeepFault}
 use Rattle.nbt_keep.specs.declared.fault.KeepFault.TheVariants as fault
+use Rattle.nbt_keep.proofs.Left.{fewer}
+use Rattle.nbt_keep.proofs.Never.{never_changed, never_from, never_to}
 use Rattle.nbt_keep.proofs.Leaving.{by_port, by_store}
 
-and_false : (b : Bool) → false ≡ (b && false)
-and_false true = refl
-and_false false = refl
-
 -- a change is appended
-pub appended_one : {S A : Type 0} (keeps : S → StoreCall → S → Type 0) (s t : S) (X : Option Change → Type 0) (change : Change) (old new : WaitingValue) (r : Result A Broken) → X (Some change) → keeps s (appending change r) t → OnOk r (new ≡ record old { is_synced = false })
-    → OnOk r ((c : Option Change) × X c × Chain keeps s (appends_of c) t × (new ≡ with_change c old))
-appended_one keeps s t X change old new (Ok done) x did is = (Some change, x, (t, did, refl), is ∙ ap (λ (b : Bool). record old { is_synced = b }) (and_false old.is_synced))
+pub appended_one : {S A : Type 0} (keeps : S → StoreCall → S → Type 0) (s t : S) (X : Option Change → Type 0) (change : Change) (old new : WaitingValue) (r : Result A Broken) → X (Some change) → keeps s (appending change r) t → OnOk r (new ≡ with_line change old)
+    → OnOk r ((c : Option Change) × X c × Chain keeps s (appends_of c) t × (new ≡ with_any c old))
+appended_one keeps s t X change old new (Ok done) x did is = (Some change, x, (t, did, refl), is)
 appended_one keeps s t X change old new (Err broken) x did is = tt
 
-pub not_appended : {S A : Type 0} (keeps : S → StoreCall → S → Type 0) (s t : S) (X : Option Change → Type 0) (change : Change) (new : WaitingValue) (r : Result A Broken) → X (Some change) → keeps s (appending change r) t → OnErr r (new ≡ dropped)
-    → OnErr r ((one : Change) × X (Some one) × keeps s (append_failed one) t × (new ≡ dropped))
-not_appended keeps s t X change new (Ok done) x did is = tt
-not_appended keeps s t X change new (Err broken) x did is = (change, x, did, is)
+pub not_appended_one : {S A : Type 0} (keeps : S → StoreCall → S → Type 0) (s t : S) (X : Option Change → Type 0) (change : Change) (old new : WaitingValue) (r : Result A Broken) → X (Some change) → keeps s (appending change r) t → OnErr r (new ≡ dropped (with_line change old))
+    → OnErr r ((one : Change) × X (Some one) × keeps s (append_failed one) t × (new ≡ dropped (with_line one old)))
+not_appended_one keeps s t X change old new (Ok done) x did is = tt
+not_appended_one keeps s t X change old new (Err broken) x did is = (change, x, did, is)
 
--- ---- a reply is sent at once, where none waits
+-- ---- a reply is sent at once, where it waits for nothing
 
-or_true : (b : Bool) → (b || true) ≡ true
-or_true true = refl
-or_true false = refl
-
-module _ {P S : Type 0} (does : P → PortCall → P → Type 0) (keeps : S → StoreCall → S → Type 0) (p q : P) (s : S) (old : WaitingValue) (to : Option Addr) (octets : List ℕ) (clear : old ≡ none_waits) where
+module _ {P S C : Type 0} (does : P → PortCall → P → Type 0) (keeps : S → StoreCall → S → Type 0) (tells : C → ℕ → C → Type 0) (p q : P) (s : S) (c : C) (life : ℕ) (synced : Bool) (old : WaitingValue) (read : ℕ) (to : Option Addr) (octets : List ℕ) (at_once : GoesAtOnce synced old) where
   abbrev Calls : List DeviceCall → Type 0
   Calls calls = Chain (DeviceDoes does keeps) (record { port = p; store = s }) calls (record { port = q; store = s })
 
-  pub sent_at_once : Chain does p (sends_of (reply_to to octets)) q → (calls : List DeviceCall) × Leaves (not (is_some to)) (behind old to octets) calls old × Calls calls
-  sent_at_once did = rw clear (leaving (behind none_waits to octets), now_leave (or_true (not (is_some to))), by_port does keeps p q s (sends_of (reply_to to octets)) did)
+  pub went_at_once : Chain does p (sends_of (reply_to read to octets)) q → (calls : List DeviceCall) × (readings : List ℕ) × PassesOn life (not (is_some to)) synced (reply_to read to octets) old calls readings old × Calls calls × Chain tells c readings c
+  went_at_once did = (map on_port (sends_of (reply_to read to octets)), [], goes at_once, by_port does keeps p q s (sends_of (reply_to read to octets)) did, refl)
 
-  lost_at_once : (why : KeepFault) → (lost : Addr) × (to ≡ Some lost) × (why ≡ fault.Port) × does p (send_failed lost octets) q
-      → (calls : List DeviceCall) × (is_due (not (is_some to)) (behind old to octets) ≡ true) × LeavingFails (behind old to octets) why calls old × Calls calls
-  lost_at_once why l =
-      rw (clear, l.1, l.2) (
-        on_port (send_failed l.0 octets) ∷ [],
-        refl,
-        send_fails [] (record { addr = l.0; octets = octets }) [] refl,
-        (record { port = q; store = s }, (l.3, refl), refl),
-      )
+  lost_then : (why : KeepFault) → (lost : Addr) × (to ≡ Some lost) × (why ≡ fault.Port) × does p (send_failed lost octets) q
+      → (calls : List DeviceCall) × (readings : List ℕ) × PassingFails life (not (is_some to)) synced (reply_to read to octets) old why calls readings old × Calls calls × Chain tells c readings c
+  lost_then why l =
+      let lost : ReplyValue = record { read = read; datagram = record { addr = l.0; octets = octets } } in
+      let one : reply_to read to octets ≡ lost ∷ [] = ap (λ (o : Option Addr). reply_to read o octets) l.1 in
+      rw l.2 (on_port (send_failed l.0 octets) ∷ [], [], not_sent lost at_once one, (record { port = q; store = s }, (l.3, refl), refl), refl)
 
   pub fails_at_once : {A : Type 0} (r : Result A KeepFault) → IfErr r (λ why. (lost : Addr) × (to ≡ Some lost) × (why ≡ fault.Port) × does p (send_failed lost octets) q)
-      → IfErr r (λ why. (calls : List DeviceCall) × (is_due (not (is_some to)) (behind old to octets) ≡ true) × LeavingFails (behind old to octets) why calls old × Calls calls)
+      → IfErr r (λ why. (calls : List DeviceCall) × (readings : List ℕ) × PassingFails life (not (is_some to)) synced (reply_to read to octets) old why calls readings old × Calls calls × Chain tells c readings c)
   fails_at_once (Ok done) l = tt
-  fails_at_once (Err why) l = lost_at_once why l
+  fails_at_once (Err why) l = lost_then why l
 
 -- ---- a whole turn
 
-module _ {P S : Type 0} (does : P → PortCall → P → Type 0) (keeps : S → StoreCall → S → Type 0) (p q r : P) (s t u : S) where
-  -- the receive, and the append
-  pub taken : (took : Took) (call : PortCall) → receive_in took.turn ≡ call → does p call q → Chain keeps s (appends_of took.change) t → Chain (DeviceDoes does keeps) (record { port = p; store = s }) (taking took) (record { port = q; store = t })
-  taken took call is did kept = (record { port = q; store = s }, (subst (λ (c : PortCall). does p c q) (sym is) did, refl), by_store does keeps q s t (appends_of took.change) kept)
+-- the calls of a turn: the receive and those of the store, and then those with which what waits leaves
+pub taken : {P S : Type 0} (does : P → PortCall → P → Type 0) (keeps : S → StoreCall → S → Type 0) (p q : P) (s t : S) (posted call : PortCall) (stored : List StoreCall) → posted ≡ call → does p call q → Chain keeps s stored t
+    → Chain (DeviceDoes does keeps) (record { port = p; store = s }) (on_port posted ∷ map on_store stored) (record { port = q; store = t })
+taken does keeps p q s t posted call stored is did kept = (record { port = q; store = s }, (subst (λ (c : PortCall). does p c q) (sym is) did, refl), by_store does keeps q s t stored kept)
 
-  pub went_on : (took : Took) (calls : List DeviceCall) → Chain (DeviceDoes does keeps) (record { port = p; store = s }) (taking took) (record { port = q; store = t })
-      → Chain (DeviceDoes does keeps) (record { port = q; store = t }) calls (record { port = r; store = u }) → Chain (DeviceDoes does keeps) (record { port = p; store = s }) (taking took ++ calls) (record { port = r; store = u })
-  went_on took calls before behind = chain-append (DeviceDoes does keeps) (record { port = p; store = s }) (record { port = q; store = t }) (record { port = r; store = u }) (taking took) calls before behind
-
-  pub not_taken : (turn : Turn) (change : Change) (call : PortCall) → receive_in turn ≡ call → does p call q → keeps s (append_failed change) t
-      → Chain (DeviceDoes does keeps) (record { port = p; store = s }) (on_port (receive_in turn) ∷ on_store (append_failed change) ∷ []) (record { port = q; store = t })
-  not_taken turn change call is did kept = (record { port = q; store = s }, (subst (λ (c : PortCall). does p c q) (sym is) did, refl), (record { port = q; store = t }, (kept, refl), refl))
-
-  pub not_received : does p receive_failed q → Chain (DeviceDoes does keeps) (record { port = p; store = s }) (on_port receive_failed ∷ []) (record { port = q; store = s })
-  not_received did = (record { port = q; store = s }, (did, refl), refl)
-
--- the reply behind the append of the change
-pub joined : (took : Took) (old mid : WaitingValue) (to : Option Addr) (out : List ℕ) → reply_in took.turn ≡ reply_to to out → mid ≡ with_change took.change old → behind mid to out ≡ with_reply took old
-joined took old mid to out is mid_is =
-    ap (λ (w : WaitingValue). behind w to out) mid_is ∙ ap (λ (ds : List DatagramValue). record { replies = old.replies ++ ds; is_synced = old.is_synced && not (is_some took.change) }) (sym is)
+pub not_received : {P S : Type 0} (does : P → PortCall → P → Type 0) (keeps : S → StoreCall → S → Type 0) (p q : P) (s : S) → does p receive_failed q
+    → Chain (DeviceDoes does keeps) (record { port = p; store = s }) (on_port receive_failed ∷ []) (record { port = q; store = s })
+not_received does keeps p q s did = (record { port = q; store = s }, (did, refl), refl)
 
 -- what waits leaves or still waits, after what was taken
-pub passed_so : (took : Took) (idle : Bool) (old mid new : WaitingValue) (calls : List DeviceCall) → is_unanswered took.turn ≡ idle → mid ≡ with_reply took old → Leaves idle mid calls new → Passes old took (taking took ++ calls) new
-passed_so took idle old mid new calls idle_is mid_is l = by_kind calls new (subst (λ (w : WaitingValue). Leaves (is_unanswered took.turn) w calls new) mid_is (subst (λ (b : Bool). Leaves b mid calls new) (sym idle_is) l))
-  where
-    by_kind : (calls : List DeviceCall) (new : WaitingValue) → Leaves (is_unanswered took.turn) (with_reply took old) calls new → Passes old took (taking took ++ calls) new
-    by_kind _ _ (still_wait not) = subst (λ (cs : List DeviceCall). Passes old took cs (with_reply took old)) (sym (append-nil (taking took))) (waits not)
-    by_kind _ _ (now_leave due) = all_leave due
+module _ (life : ℕ) (t : Took) (old mid : WaitingValue) (idle synced : Bool) (replies : List ReplyValue)
+    (synced_is : synced ≡ is_any (reached old.durable (moments_in t.turn))) (mid_is : mid ≡ with_any t.change (before_it t.turn old)) (idle_is : is_unanswered t.turn ≡ idle) (replies_are : reply_in t.turn ≡ replies) where
+  same_end : NeverWaits t old → with_any t.change (before_it t.turn old) ≡ old
+  same_end never = never_changed t old never
 
-pub failed_so : (took : Took) (idle : Bool) (why : KeepFault) (old mid new : WaitingValue) (calls : List DeviceCall) → is_unanswered took.turn ≡ idle → mid ≡ with_reply took old → is_due idle mid ≡ true → LeavingFails mid why calls new
-    → Fails old (Some took) why (taking took ++ calls) new
-failed_so took idle why old mid new calls idle_is mid_is due fails =
-    leaving_fails took why calls new (ap (λ (w : WaitingValue). is_due (is_unanswered took.turn) w) (sym mid_is) ∙ (ap (λ (b : Bool). is_due b mid) idle_is ∙ due)) (subst (λ (w : WaitingValue). LeavingFails w why calls new) mid_is fails)
+  passed_as : (calls : List DeviceCall) (readings : List ℕ) (new : WaitingValue) → PassesOn life (is_unanswered t.turn) synced (reply_in t.turn) (with_any t.change (before_it t.turn old)) calls readings new → Passes life old t (taking t old ++ calls) readings new
+  passed_as _ _ _ (goes now) =
+      let never = never_from t old synced synced_is now in
+      subst (Passes life old t (taking t old ++ map on_port (sends_of (reply_in t.turn))) []) (sym (same_end never)) (at_once never)
+  passed_as _ _ _ (leaves _ _ _ not (still_wait stays)) = subst (λ (cs : List DeviceCall). Passes life old t cs [] (with_reply t old)) (sym (append-nil (taking t old))) (waits stays)
+  passed_as _ _ _ (leaves _ _ _ not (now_leave due now)) = all_leave (λ never. not (never_to t old synced synced_is never)) due now
 
-pub dropped_so : (turn : Turn) (change : Change) (old new : WaitingValue) → new ≡ dropped → Fails old (Some (record { turn = turn; change = Some change })) fault.Store (on_port (receive_in turn) ∷ on_store (append_failed change) ∷ []) new
-dropped_so turn change old new is = subst (Fails old (Some (record { turn = turn; change = Some change })) fault.Store (on_port (receive_in turn) ∷ on_store (append_failed change) ∷ [])) (sym is) (append_fails turn change)
+  pub passed_so : (calls : List DeviceCall) (readings : List ℕ) (new : WaitingValue) → PassesOn life idle synced replies mid calls readings new → Passes life old t (taking t old ++ calls) readings new
+  passed_so calls readings new l =
+      passed_as calls readings new
+      (subst (λ (w : WaitingValue). PassesOn life (is_unanswered t.turn) synced (reply_in t.turn) w calls readings new) mid_is
+      (subst (λ (rs : List ReplyValue). PassesOn life (is_unanswered t.turn) synced rs mid calls readings new) (sym replies_are) (subst (λ (b : Bool). PassesOn life b synced replies mid calls readings new) (sym idle_is) l)))
 
--- fewer wait than may, after what waits left or where it still waits
+  failed_as : (why : KeepFault) (calls : List DeviceCall) (readings : List ℕ) (new : WaitingValue) → PassingFails life (is_unanswered t.turn) synced (reply_in t.turn) (with_any t.change (before_it t.turn old)) why calls readings new
+      → Fails life old (Some t) why (taking t old ++ calls) (moments_in t.turn ++ readings) new
+  failed_as _ _ _ _ (not_sent lost now one) =
+      let never = never_from t old synced synced_is now in
+      let calls = taking t old ++ on_port (send_failed lost.datagram.addr lost.datagram.octets) ∷ [] in
+      subst (λ (rs : List ℕ). Fails life old (Some t) fault.Port calls rs (with_any t.change (before_it t.turn old))) (sym (append-nil (moments_in t.turn)))
+      (subst (Fails life old (Some t) fault.Port calls (moments_in t.turn)) (sym (same_end never)) (sending_fails t lost never one))
+  failed_as _ _ _ _ (not_left why calls readings new not due fails) = leaving_fails t why calls readings new (λ never. not (never_to t old synced synced_is never)) due fails
+
+  pub failed_so : (why : KeepFault) (calls : List DeviceCall) (readings : List ℕ) (new : WaitingValue) → PassingFails life idle synced replies mid why calls readings new → Fails life old (Some t) why (taking t old ++ calls) (moments_in t.turn ++ readings) new
+  failed_so why calls readings new l =
+      failed_as why calls readings new
+      (subst (λ (w : WaitingValue). PassingFails life (is_unanswered t.turn) synced (reply_in t.turn) w why calls readings new) mid_is
+      (subst (λ (rs : List ReplyValue). PassingFails life (is_unanswered t.turn) synced rs mid why calls readings new) (sym replies_are) (subst (λ (b : Bool). PassingFails life b synced replies mid why calls readings new) (sym idle_is) l)))
+
+-- the store failed before that
+module _ {P S C : Type 0} (does : P → PortCall → P → Type 0) (keeps : S → StoreCall → S → Type 0) (tells : C → ℕ → C → Type 0) (p q : P) (s t : S) (c d : C) (server new : ServerValue) (old after : WaitingValue) (from : Addr) (octets : List ℕ) (did : does p (came from octets) q) where
+  pub broke : FailsToTake keeps tells s c server old from octets t d new after
+      → BreaksKeeping does keeps tells fault.Store (record { port = p; store = s; clock = c; server = server; waiting = old }) (record { port = q; store = t; clock = d; server = new; waiting = after })
+  broke (in_reaching now calls past fails kept told same is) = record {
+    took = None;
+    calls = on_port (came from octets) ∷ map on_store calls;
+    readings = now ∷ [];
+    takes = same;
+    fails = subst (Fails new.table.config.life old None fault.Store (on_port (came from octets) ∷ map on_store calls) (now ∷ [])) (sym is) (reaching_fails now from octets calls past fails);
+    devices_did = taken does keeps p q s t (came from octets) (came from octets) calls refl did kept;
+    clock_told = (d, told, refl);
+  }
+  broke (in_appending turn change takes received kept told is) =
+      let stored = flat_map lay_down (reached old.durable (moments_in turn)) ++ append_failed change ∷ [] in
+      record {
+        took = Some (record { turn = turn; change = Some change });
+        calls = on_port (receive_in turn) ∷ map on_store stored;
+        readings = moments_in turn;
+        takes = takes;
+        fails = subst (Fails new.table.config.life old (Some (record { turn = turn; change = Some change })) fault.Store (on_port (receive_in turn) ∷ map on_store stored) (moments_in turn)) (sym is) (append_fails turn change);
+        devices_did = taken does keeps p q s t (receive_in turn) (came from octets) stored received did kept;
+        clock_told = told;
+      }
+
+-- ---- the room for one reply more
+
 second_false : (a b : Bool) → (a || b) ≡ false → b ≡ false
 second_false true b e = absurd cc
 second_false false b e = e
 
-pub room_left : (idle : Bool) (old new : WaitingValue) (calls : List DeviceCall) → Leaves idle old calls new → length new.replies < batch
-room_left idle old _ _ (still_wait not) =
-    leb-false batch (length old.replies) (second_false old.is_synced (nat_le batch (length old.replies)) (second_false idle (old.is_synced || nat_le batch (length old.replies)) not))
-room_left idle old _ _ (now_leave due) = omega arith
+left_room : (idle : Bool) (life : ℕ) (old new : WaitingValue) (calls : List DeviceCall) (readings : List ℕ) → Leaves life idle old calls readings new → length new.replies < batch
+left_room idle life old _ _ _ (still_wait stays) =
+    leb-false batch (length old.replies) (second_false (not (is_some old.unsynced)) (nat_le batch (length old.replies)) (second_false idle (not (is_some old.unsynced) || nat_le batch (length old.replies)) stays))
+left_room idle life old _ _ _ (now_leave due now) = omega arith
 
-pub room_failed : (old new : WaitingValue) (why : KeepFault) (calls : List DeviceCall) → LeavingFails old why calls new → length old.replies ≤ batch → length new.replies < batch
-room_failed old _ _ _ (sync_fails not) few = omega arith
-room_failed old _ _ _ (send_fails before lost rest is) few = let l = length-append before (lost ∷ rest) in let e = ap length is in omega (arith, l, e, few)
+pub room_left : (life : ℕ) (idle synced : Bool) (replies : List ReplyValue) (old new : WaitingValue) (calls : List DeviceCall) (readings : List ℕ) → length old.replies < batch → PassesOn life idle synced replies old calls readings new → length new.replies < batch
+room_left life idle synced replies old _ _ _ room (goes now) = room
+room_left life idle synced replies old _ _ _ room (leaves calls readings new not l) = left_room idle life (behind replies old) new calls readings l
+
+pub few_so : (waiting : WaitingValue) (read : ℕ) (to : Option Addr) (out : List ℕ) → length waiting.replies < batch → length (behind (reply_to read to out) waiting).replies ≤ batch
+few_so waiting read None out room = let l = length-append waiting.replies [] in omega (arith, l, room)
+few_so waiting read (Some to) out room = let l = length-append waiting.replies (reply_to read (Some to) out) in omega (arith, l, room)
+
+failed_room : (life : ℕ) (old new : WaitingValue) (why : KeepFault) (calls : List DeviceCall) (readings : List ℕ) → LeavingFails life old why calls readings new → length old.replies ≤ batch → length new.replies < batch
+failed_room life old _ _ _ _ (sync_fails not) few = omega arith
+failed_room life old _ _ _ _ (send_fails now before lost rest is) few =
+    let l = length-append before (lost ∷ rest) in let e = ap length is in let f = fewer (λ (reply : ReplyValue). nat_le now (reply.read + life)) old.replies in omega (arith, l, e, f, few)
+
+pub room_failed : (life : ℕ) (idle synced : Bool) (replies : List ReplyValue) (old new : WaitingValue) (why : KeepFault) (calls : List DeviceCall) (readings : List ℕ) → length old.replies < batch → length (behind replies old).replies ≤ batch
+    → PassingFails life idle synced replies old why calls readings new → length new.replies < batch
+room_failed life idle synced replies old _ _ _ _ room few (not_sent lost now one) = room
+room_failed life idle synced replies old _ _ _ _ room few (not_left why calls readings new not due fails) = failed_room life (behind replies old) new why calls readings fails few
 
 -- a failure, with what is known besides
-pub known_too : {A : Type 0} (X : KeepFault → List DeviceCall → Type 0) (Y : List DeviceCall → Type 0) (Z : Type 0) (r : Result A KeepFault) → Z → IfErr r (λ why. (calls : List DeviceCall) × X why calls × Y calls)
-    → IfErr r (λ why. (calls : List DeviceCall) × Z × X why calls × Y calls)
-known_too X Y Z (Ok done) z l = tt
-known_too X Y Z (Err why) z l = (l.0, z, l.1, l.2)
+pub known_too : {A : Type 0} (X : KeepFault → List DeviceCall → List ℕ → Type 0) (Y : List DeviceCall → Type 0) (V : List ℕ → Type 0) (Z : Type 0) (r : Result A KeepFault) → Z → IfErr r (λ why. (calls : List DeviceCall) × (readings : List ℕ) × X why calls readings × Y calls × V readings)
+    → IfErr r (λ why. (calls : List DeviceCall) × (readings : List ℕ) × Z × X why calls readings × Y calls × V readings)
+known_too X Y V Z (Ok done) z l = tt
+known_too X Y V Z (Err why) z l = (l.0, l.1, z, l.2, l.3, l.4)

@@ -43,10 +43,10 @@ one_begun f row rows apart q =
     ap (λ (ls : List Lease). ls ++ named q rows) (cond-false (same_name q row.0) (without row.1.addr (f row.0) ++ row.1 ∷ []) (f q) other) ∙ ap (λ (ls : List Lease). f q ++ ls) (sym (named_other q row rows (turned_false q row.0 other))))
     (cases_Bool (same_name q row.0))
 
-all_begun : (rows : Rows) (f : Leases) → ((q : NameValue) → AreApart (f q ++ named q rows)) → (q : NameValue) → after_all (begun_all rows) f q ≡ f q ++ named q rows
-all_begun [] f apart q = sym (append-nil (f q))
-all_begun (row ∷ rows) f apart q =
-    all_begun rows (at_name row.0 (without row.1.addr (f row.0) ++ row.1 ∷ []) f) (λ p. subst AreApart (sym (one_begun f row rows apart p)) (apart p)) q ∙ one_begun f row rows apart q
+all_begun : (rows : Rows) (f : Leases) → ((q : NameValue) → AreApart (f q ++ named q rows)) → (at : ℕ) (q : NameValue) → after_all (begun_all at rows) f q ≡ f q ++ named q rows
+all_begun [] f apart at q = sym (append-nil (f q))
+all_begun (row ∷ rows) f apart at q =
+    all_begun rows (at_name row.0 (without row.1.addr (f row.0) ++ row.1 ∷ []) f) (λ p. subst AreApart (sym (one_begun f row rows apart p)) (apart p)) at q ∙ one_begun f row rows apart q
 
 -- of live rows
 live_front : (now : ℕ) (row : NameValue × Lease) (rows : Rows) → is_live now row.1 ≡ true → filter (λ (r : NameValue × Lease). is_live now r.1) (row ∷ rows) ≡ row ∷ filter (λ (r : NameValue × Lease). is_live now r.1) rows
@@ -68,12 +68,12 @@ live_named now (row ∷ rows) q =
     (λ over. ap (named q) (over_front now row rows over) ∙ (live_named now rows q ∙ sym (row_over now row rows q over)))
     (cases_Bool (is_live now row.1))
 
-pub renewed_kept : (server : ServerValue) (kept : Leases) → IsKept kept server → IsKept (after_all (begun_all (live_rows server)) no_leases) server
-renewed_kept server kept k = record { apart = λ q. subst AreApart (sym (leases_are q)) (apart q); live = λ q. ap (filter (is_live server.last)) (leases_are q) ∙ sym (later_is server.last server.last server.table.rows q (omega arith)) }
+pub renewed_kept : (server : ServerValue) (kept : Leases) (at : ℕ) → IsKept kept server → IsKept (after_all (begun_all at (live_rows server)) no_leases) server
+renewed_kept server kept at k = record { apart = λ q. subst AreApart (sym (leases_are q)) (apart q); live = λ q. ap (filter (is_live server.last)) (leases_are q) ∙ sym (later_is server.last server.last server.table.rows q (omega arith)) }
   where
     apart : (q : NameValue) → AreApart (leases_at server.last server.table.rows q)
     apart q = subst AreApart (k.live q) (apart_filtered (is_live server.last) (kept q) (k.apart q))
 
-    leases_are : (q : NameValue) → after_all (begun_all (live_rows server)) no_leases q ≡ leases_at server.last server.table.rows q
+    leases_are : (q : NameValue) → after_all (begun_all at (live_rows server)) no_leases q ≡ leases_at server.last server.table.rows q
     leases_are q =
-        all_begun (live_rows server) no_leases (λ p. subst AreApart (sym (live_named server.last server.table.rows p)) (apart p)) q ∙ live_named server.last server.table.rows q
+        all_begun (live_rows server) no_leases (λ p. subst AreApart (sym (live_named server.last server.table.rows p)) (apart p)) at q ∙ live_named server.last server.table.rows q

@@ -1,6 +1,6 @@
 -- What the server did with a datagram, and the change that it is.
 use Rattle.std.proofs.Common.{◌≡◌, ℕ, ◌<◌, ◌≤◌, false, not, List, [], ◌∷◌, ◌++◌, Option, Some, None, Ok, Err, refl, sym, ap, ◌∙◌, subst, ⊎_elim, arith}
-use Rattle.std.specs.Prelude.{nat_eq, is_some}
+use Rattle.std.specs.Prelude.{nat_eq, is_some, IfSome}
 use Rattle.std.proofs.lemmas.Bool.{false≢true}
 use Rattle.nbt_lease.specs.declared.lease.Lease.{Lease}
 use Rattle.nbt_lease.specs.declared.lease.Grant.{Grant}
@@ -26,10 +26,10 @@ use Rattle.nbt_server.specs.declared.outcome.Claim.{Claim}
 use Rattle.nbt_server.specs.declared.outcome.Outcome.{Outcome}
 use Rattle.nbt_server.specs.declared.outcome.Outcome.TheVariants as did
 use Rattle.nbt_store.specs.declared.change.Change.{Change}
-use Rattle.nbt_store.specs.declared.change.Change.TheVariants.{Moved}
-use Rattle.nbt_store.specs.Changes.{without, with_end, after}
+use Rattle.nbt_store.specs.declared.change.Change.TheVariants.{Began, Moved, Released as Gone}
+use Rattle.nbt_store.specs.Changes.{without, with_end, after, at_of}
 use Rattle.nbt_keep.specs.Changing.{IsKept, after_any, changes_leases, IsChange}
-use Rattle.nbt_keep.specs.Inner.Telling.{Tells}
+use Rattle.nbt_keep.specs.Inner.Telling.{lease_of, Tells}
 use Rattle.nbt_keep.proofs.Kept.{began_live, began_apart, released_live, moved_live, moved_apart, apart_filtered, live_later}
 
 -- ---- what is kept has these leases at a time
@@ -81,7 +81,7 @@ granted config now count r leases list grant old new kept (Some change) (renews 
     let apart_here : AreApart (before ++ lease ∷ behind) = subst AreApart was_here (apart_filtered (is_live now) (kept r.name) (k.apart r.name)) in
     let one = one_own r.addr before behind tells.0 tells.2 fresh tells.1 (apart_replaced before behind lease fresh refl apart_here) (sym now_here ∙ tells.3) own tells.4 in
     let lives : now < fresh.end = (all_behind (λ l. now < l.end) before (fresh ∷ behind) (subst (AllByRecursion (λ (l : Lease). now < l.end)) now_here live)).0 in
-    let change_is : change ≡ Moved r.name r.addr fresh.end = tells.5 ∙ ap (λ (l : Lease). Moved r.name r.addr l.end) (sym one.1) in
+    let change_is : change ≡ Moved r.name r.addr fresh.end now = tells.5 ∙ ap (λ (l : Lease). Moved r.name r.addr l.end now) (sym one.1) in
     subst (λ (c : Change). KeptAt now (after c kept) new) (sym change_is)
     (subst (KeptAt now (at_name r.name (with_end r.addr fresh.end (kept r.name)) kept)) (sym new_is)
     (kept_put now r.name (with_end r.addr fresh.end (kept r.name)) (before ++ fresh ∷ behind) kept old (moved_apart r.addr fresh.end (kept r.name) (k.apart r.name)) (moved_live now (kept r.name) before lease behind r.addr fresh.end (k.apart r.name) was_here own lives) k))
@@ -191,12 +191,29 @@ some_octets server now ip octets reply new outcome change (serves m _ _ speaks s
 pub some_told : (old new : ServerValue) (now ip : ℕ) (octets out : List ℕ) (outcome : Outcome) (change : Option Change) → ServerHandles old now ip octets outcome out new → Tells now (leases_at now new.table.rows) outcome change → is_some change ≡ changes_leases outcome
 some_told old new now ip octets out outcome change h tells = some_octets old now ip octets h.reply (leases_at now new.table.rows) outcome change h.takes.serves h.done tells
 
+-- ---- its time is the server's
+
+time_told : (now : ℕ) (leases : Leases) (outcome : Outcome) (change : Option Change) → Tells now leases outcome change → IfSome change (λ c. at_of c ≡ now)
+time_told now leases outcome None tells = tt
+time_told now leases (did.Granted claim seconds) (Some c) tells = let same : c ≡ Began claim.name (lease_of now claim seconds) now = cc in ap at_of same
+time_told now leases (did.Renewed claim seconds) (Some c) tells = ap at_of tells.5
+time_told now leases (did.Released claim) (Some c) tells = let same : c ≡ Gone claim.name claim.addr now = cc in ap at_of same
+time_told now leases (did.Refused claim refusal) (Some c) tells = absurd cc
+time_told now leases (did.NotLeased claim) (Some c) tells = absurd cc
+time_told now leases (did.NotReleased claim refusal) (Some c) tells = absurd cc
+time_told now leases (did.Found name) (Some c) tells = absurd cc
+time_told now leases (did.NotFound name) (Some c) tells = absurd cc
+time_told now leases (did.Silent name) (Some c) tells = absurd cc
+time_told now leases did.ForNodes (Some c) tells = absurd cc
+time_told now leases did.NoMessage (Some c) tells = absurd cc
+
 -- ---- so that change, or none, is what it changed
 
 pub is_change : (outcome : Outcome) (new : ServerValue) (change : Option Change) → Tells new.last (leases_at new.last new.table.rows) outcome change → IsChange outcome new change
 is_change outcome new change tells = record {
   keeps = λ old now ip octets out h. told old new now ip octets out outcome change h (tells_at now h.takes.last);
   some = λ old now ip octets out h. some_told old new now ip octets out outcome change h (tells_at now h.takes.last);
+  time = time_told new.last (leases_at new.last new.table.rows) outcome change tells;
 }
   where
     tells_at : (now : ℕ) → new.last ≡ now → Tells now (leases_at now new.table.rows) outcome change

@@ -1,5 +1,5 @@
 -- What a datagram changes in the leases of a server (our profile).
-use Rattle.std.specs.Prelude.{◌≡◌, ℕ, List, Bool, true, false, filter, Option, Some, None, is_some}
+use Rattle.std.specs.Prelude.{◌≡◌, ℕ, List, Bool, true, false, filter, Option, Some, None, is_some, IfSome}
 use Rattle.nbt_name.specs.Wire.{NameValue}
 use Rattle.nbt_lease.specs.Lease.{Leases, is_live, leases_at, AreApart}
 use Rattle.nbt_server.specs.Serving.{ServerValue}
@@ -7,7 +7,7 @@ use Rattle.nbt_server.specs.Calls.{ServerHandles}
 use Rattle.nbt_server.specs.declared.outcome.Outcome.{Outcome}
 use Rattle.nbt_server.specs.declared.outcome.Outcome.TheVariants.{Granted, Renewed, Released}
 use Rattle.nbt_store.specs.declared.change.Change.{Change}
-use Rattle.nbt_store.specs.Changes.{after}
+use Rattle.nbt_store.specs.Changes.{after, at_of}
 
 -- What is kept has a server's leases: those that live at its last time, in their order. Leases that are over may stand
 -- among them, and no two of a name are of one address.
@@ -28,7 +28,8 @@ after_any None kept = kept
 after_any (Some change) kept = after change kept
 
 -- What a server changed in the leases by the datagram that it handled last, with this outcome, is this change, or nothing: whatever
--- was kept of its leases before has them after that, and there is a change exactly where it changed a lease.
+-- was kept of its leases before has them after that, there is a change exactly where it changed a lease, and its time is the server's.
 pub record IsChange (outcome : Outcome) (new : ServerValue) (change : Option Change) : Type 0 where
   pub keeps : (old : ServerValue) (now ip : ℕ) (octets out : List ℕ) → ServerHandles old now ip octets outcome out new → (kept : Leases) → IsKept kept old → IsKept (after_any change kept) new
   pub some : (old : ServerValue) (now ip : ℕ) (octets out : List ℕ) → ServerHandles old now ip octets outcome out new → is_some change ≡ changes_leases outcome
+  pub time : IfSome change (λ c. at_of c ≡ new.last)

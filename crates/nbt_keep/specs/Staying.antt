@@ -1,15 +1,16 @@
 -- A server that keeps its leases, stays up, and is watched (our profile).
-use Rattle.std.specs.Prelude.{◌≡◌, ◌≢◌, ℕ, ◌+◌, Bool, ◌&&◌, nat_le, List, Option}
-use Rattle.nbt_port.specs.PortCalls.{PortCall}
+use Rattle.std.specs.Prelude.{◌≡◌, ℕ, ◌+◌, ◌*◌, ◌<◌, ◌≤◌, Bool, true, false, ◌||◌, nat_le, nat_lt, List, Option}
+use Rattle.nbt_port.specs.PortCalls.{PortCall, Chain}
 use Rattle.nbt_port.specs.Until.{IsOver}
 use Rattle.nbt_port.specs.declared.fault.Fault.{Fault}
 use Rattle.nbt_port.specs.declared.fault.Fault.TheVariants as f
 use Rattle.nbt_server.specs.Serving.{ServerValue}
 use Rattle.nbt_store.specs.Calls.{StoreCall, renewed, renew_failed}
+use Rattle.nbt_store.specs.declared.change.Change.TheVariants.{Looked}
 use Rattle.nbt_store.specs.declared.header.Header.{Header}
 use Rattle.nbt_nbns.specs.Watching.{Sight}
 use Rattle.nbt_nbns.specs.declared.staying.Shown.{Shown}
-use Rattle.nbt_keep.specs.Waiting.{WaitingValue, none_waits}
+use Rattle.nbt_keep.specs.Waiting.{WaitingValue, none_waits, IsClear, with_line, dropped, lay_down, LineFails}
 use Rattle.nbt_keep.specs.Turning.{Keeping, KeepsTurn, BreaksKeeping}
 use Rattle.nbt_keep.specs.Runs.{live_rows}
 use Rattle.nbt_keep.specs.declared.fault.KeepFault.{KeepFault}
@@ -24,35 +25,65 @@ pub record Staying (P S C D V : Type 0) : Type 0 where
   pub watcher : V
   pub text : Option (List ℕ)
 
--- so many milliseconds a reading of the time of day may be from what the header expects
-abbrev pub near : ℕ
-near = 2000
+-- ---- the file is looked after
 
--- the time of day at a moment is what the header expects, or near it
-abbrev pub is_near : Header → (moment time : ℕ) → Bool
-is_near header moment time = nat_le (header.day + moment) (time + header.last + near) && nat_le (time + header.last) (header.day + moment + near)
+-- what is looked after: the store, the clock of the time of day, the header of the file, and what waits
+pub record Desk (S D : Type 0) : Type 0 where
+  pub store : S
+  pub day : D
+  pub header : Header
+  pub waiting : WaitingValue
 
--- the header of a file that is written at a moment, and at a time of day
+-- the header with another pair: a moment, and the time of day at it
 abbrev pub header_at : Header → (moment time : ℕ) → Header
 header_at header moment time = record header { last = moment; day = time }
 
--- The file is looked after at a moment, where no reply waits: the time of day is read, and the live leases are written anew, or not. They
--- are written where the time of day isn't near, but for want of memory.
-pub data LooksAfter {S D : Type 0} (keeps : S → StoreCall → S → Type 0) (days : D → ℕ → D → Type 0) (server : ServerValue) (waiting : WaitingValue) (at : ℕ)
-    (old_store : S) (old_day : D) (old : Header) : S → D → Header → Type 0 where
-  replies_wait : waiting ≢ none_waits → LooksAfter keeps days server waiting at old_store old_day old old_store old_day old
-  stays : (time : ℕ) (day : D) → waiting ≡ none_waits → days old_day time day → LooksAfter keeps days server waiting at old_store old_day old old_store day old
-  written : (time : ℕ) (day : D) (store : S) → waiting ≡ none_waits → days old_day time day → keeps old_store (renewed (header_at old at time) (live_rows server)) store
-      → LooksAfter keeps days server waiting at old_store old_day old store day (header_at old at time)
+-- so many milliseconds the time of day may go apart from the server's clock, beside a thousandth of what that one goes on by
+abbrev pub apart_most : ℕ
+apart_most = 200
+
+-- Since the pair of the header the time of day went on by more than the server's clock did, or by less: by more than 200 ms and a
+-- thousandth.
+abbrev pub goes_beyond : Header → (moment time : ℕ) → Bool
+goes_beyond header moment time = nat_lt (1000 * header.day + 1001 * moment + 1000 * apart_most) (1000 * time + 1001 * header.last)
+
+abbrev pub stays_behind : Header → (moment time : ℕ) → Bool
+stays_behind header moment time = nat_lt (1000 * time + 999 * header.last + 1000 * apart_most) (1000 * header.day + 999 * moment)
+
+-- a quarter of the longest lease, in milliseconds
+abbrev pub quarter : (longest : ℕ) → ℕ
+quarter longest = 250 * longest
+
+-- Whether a line of both clocks is due: a quarter of the longest lease passed since the durable time, or the clocks went apart.
+abbrev pub is_line_due : Header → (durable moment time : ℕ) → Bool
+is_line_due header durable moment time = nat_le (durable + quarter header.longest) moment || (goes_beyond header moment time || stays_behind header moment time)
+
+-- The file is looked after at a moment, where no reply waits and the moment isn't before the durable time: the time of day is read. Where
+-- the file is long, the live leases are written anew, but for want of memory; where a line of both clocks is due, it is appended, and
+-- becomes durable at once. Then the header has that moment and that time of day.
+pub data LooksAfter {S D : Type 0} (keeps : S → StoreCall → S → Type 0) (days : D → ℕ → D → Type 0) (server : ServerValue) (at : ℕ) (old : Desk S D) : Desk S D → Type 0 where
+  replies_wait : ¬ IsClear old.waiting → LooksAfter keeps days server at old old
+  goes_back : at < old.waiting.durable → LooksAfter keeps days server at old old
+  stays : (time : ℕ) (day : D) → IsClear old.waiting → old.waiting.durable ≤ at → days old.day time day → is_line_due old.header old.waiting.durable at time ≡ false
+      → LooksAfter keeps days server at old (record old { day = day })
+  looked : (time : ℕ) (day : D) (store : S) → IsClear old.waiting → old.waiting.durable ≤ at → days old.day time day → is_line_due old.header old.waiting.durable at time ≡ true
+      → Chain keeps old.store (lay_down (Looked time at)) store → LooksAfter keeps days server at old (record { store = store; day = day; header = header_at old.header at time; waiting = none_waits at })
+  written : (time : ℕ) (day : D) (store : S) → IsClear old.waiting → old.waiting.durable ≤ at → days old.day time day → keeps old.store (renewed (header_at old.header at time) (live_rows server)) store
+      → LooksAfter keeps days server at old (record { store = store; day = day; header = header_at old.header at time; waiting = none_waits at })
 
 -- The store fails at that.
-pub record FailsToLook {S D : Type 0} (keeps : S → StoreCall → S → Type 0) (days : D → ℕ → D → Type 0) (server : ServerValue) (waiting : WaitingValue) (at : ℕ)
-    (old_store : S) (old_day : D) (old : Header) (store : S) (day : D) (new : Header) : Type 0 where
-  pub time : ℕ
-  pub none : waiting ≡ none_waits
-  pub day_told : days old_day time day
-  pub header_is : new ≡ header_at old at time
-  pub failed : keeps old_store (renew_failed new (live_rows server)) store
+pub data FailsToLook {S D : Type 0} (keeps : S → StoreCall → S → Type 0) (days : D → ℕ → D → Type 0) (server : ServerValue) (at : ℕ) (old : Desk S D) : Desk S D → Type 0 where
+  line_fails : (time : ℕ) (day : D) (store : S) (calls : List StoreCall) → IsClear old.waiting → old.waiting.durable ≤ at → days old.day time day → LineFails (Looked time at) calls → Chain keeps old.store calls store
+      → FailsToLook keeps days server at old (record { store = store; day = day; header = header_at old.header at time; waiting = dropped (with_line (Looked time at) old.waiting) })
+  renewal_fails : (time : ℕ) (day : D) (store : S) → IsClear old.waiting → old.waiting.durable ≤ at → days old.day time day → keeps old.store (renew_failed (header_at old.header at time) (live_rows server)) store
+      → FailsToLook keeps days server at old (record { store = store; day = day; header = header_at old.header at time; waiting = old.waiting })
+
+-- what is looked after, before and after
+abbrev pub before_look : {P S C D V : Type 0} → Keeping P S C → Staying P S C D V → Desk S D
+before_look mid old = record { store = mid.store; day = old.day; header = old.header; waiting = mid.waiting }
+
+abbrev pub after_look : {P S C D V : Type 0} → Staying P S C D V → Desk S D
+after_look new = record { store = new.keeping.store; day = new.day; header = new.header; waiting = new.keeping.waiting }
 
 module _ {P S C D V : Type 0} (does : P → PortCall → P → Type 0) (failures : P → ℕ) (keeps : S → StoreCall → S → Type 0) (tells : C → ℕ → C → Type 0) (days : D → ℕ → D → Type 0) (sees : Sight V) where
   -- A turn goes well, the clock is read after it, and the watcher is shown the turn, with how many calls of the port failed by then.
@@ -67,16 +98,16 @@ module _ {P S C D V : Type 0} (does : P → PortCall → P → Type 0) (failures
   pub record WatchesKeeping (old : Staying P S C D V) (shown : Shown) (new : Staying P S C D V) : Type 0 where
     pub mid : Keeping P S C
     pub shows : ShowsKeeping old shown mid new
-    pub looks : LooksAfter keeps days mid.server mid.waiting shown.at mid.store old.day old.header new.keeping.store new.day new.header
-    pub keeping_is : new.keeping ≡ record mid { store = new.keeping.store }
+    pub looks : LooksAfter keeps days mid.server shown.at (before_look mid old) (after_look new)
+    pub keeping_is : new.keeping ≡ record mid { store = new.keeping.store; waiting = new.keeping.waiting }
 
   -- a turn after which its time isn't over, or a reply waits
   abbrev pub WatchesOn : (until : Option ℕ) → Staying P S C D V → Shown → Staying P S C D V → Type 0
-  WatchesOn until old shown new = WatchesKeeping old shown new × (IsOver until shown.at → new.keeping.waiting ≢ none_waits)
+  WatchesOn until old shown new = WatchesKeeping old shown new × (IsOver until shown.at → ¬ IsClear new.keeping.waiting)
 
   -- the last turn, after which it is, and none waits
   abbrev pub WatchesLast : (until : Option ℕ) → Staying P S C D V → Staying P S C D V → Type 0
-  WatchesLast until old new = (shown : Shown) × WatchesKeeping old shown new × IsOver until shown.at × (new.keeping.waiting ≡ none_waits)
+  WatchesLast until old new = (shown : Shown) × WatchesKeeping old shown new × IsOver until shown.at × IsClear new.keeping.waiting
 
   -- A turn in which a device fails: nothing is shown.
   pub record BreaksStaying (why : KeepFault) (old new : Staying P S C D V) : Type 0 where
@@ -86,8 +117,8 @@ module _ {P S C D V : Type 0} (does : P → PortCall → P → Type 0) (failures
   -- The store fails, in a turn or as the file is looked after; it is cut off by nothing else.
   pub data StoreFails (old new : Staying P S C D V) : Type 0 where
     in_turn : BreaksStaying fault.Store old new → StoreFails old new
-    after_turn : (shown : Shown) (mid : Keeping P S C) → ShowsKeeping old shown mid new → FailsToLook keeps days mid.server mid.waiting shown.at mid.store old.day old.header new.keeping.store new.day new.header
-        → new.keeping ≡ record mid { store = new.keeping.store } → StoreFails old new
+    after_turn : (shown : Shown) (mid : Keeping P S C) → ShowsKeeping old shown mid new → FailsToLook keeps days mid.server shown.at (before_look mid old) (after_look new)
+        → new.keeping ≡ record mid { store = new.keeping.store; waiting = new.keeping.waiting } → StoreFails old new
 
   abbrev pub CutsStaying : Fault → Staying P S C D V → Staying P S C D V → Type 0
   CutsStaying f.Store old new = StoreFails old new

@@ -12,7 +12,7 @@ use nbt_store::Change;
 
 /// What a server changed in the leases by the datagram that it handled last, by what it did with it: that a lease began, that it has
 /// this expiry from now on, or that it was released; `None` if nothing. A renewal is such a change also where the expiry stays.
-/// Whatever was kept of the server's leases before has them after that change.
+/// Whatever was kept of the server's leases before has them after that change, and its time is the server's.
 pub fn change_of(server: &Server, outcome: &Outcome) -> Option<Change>
     ensures { IsChange outcome.now server.now result }
 {
@@ -41,6 +41,7 @@ fn change_by(outcome: &Outcome, now: Moment, table: &Table) -> Option<Change>
         Outcome::Released(claim) => Some(Change::Released {
             name: claim.name.copy(),
             addr: claim.addr,
+            at: now.get(),
         }),
         _ => None,
     }
@@ -57,13 +58,14 @@ fn beginning(claim: &Claim, now: Moment, seconds: u32) -> Change
             kind: claim.kind,
             end: now.get() + 1000 * u64::from(seconds),
         },
+        at: now.get(),
     }
 }
 
 /// The lease of this claim has the expiry that it has in the table; none if it isn't there.
 fn move_of(claim: &Claim, now: Moment, table: &Table) -> Option<Change>
     requires { table.now.last ≤ now }
-    ensures { TellsMove claim.now (leases_at now table.now.rows) result }
+    ensures { TellsMove now claim.now (leases_at now table.now.rows) result }
 {
     for lease in table.members(now, &claim.name) {
         if lease.addr == claim.addr {
@@ -71,6 +73,7 @@ fn move_of(claim: &Claim, now: Moment, table: &Table) -> Option<Change>
                 name: claim.name.copy(),
                 addr: claim.addr,
                 end: lease.end,
+                at: now.get(),
             });
         }
     }

@@ -8,9 +8,10 @@ ghost use Rattle.nbt_server.specs.Calls.{ServerResumes, kept_server, limited};
 ghost use Rattle.nbt_store.specs.Changes.{after_all, begun_all, no_leases};
 ghost use Rattle.nbt_keep.specs.Changing.{IsKept};
 ghost use Rattle.nbt_keep.specs.Waiting.{batch};
+ghost use Rattle.nbt_keep.specs.Turning.{reach};
 ghost use Rattle.nbt_keep.specs.Runs.{live_rows, NoReplyPrecedesItsChange, CrashLeavesAnEarlierServer, ServersGoByTurns};
 
-use crate::waiting::BATCH;
+use crate::waiting::{BATCH, REACH};
 
 /// A server that crashed may resume with any rows that have what lives of its kept leases, with its own start and limits, once
 /// its clock reads no less than at its last datagram: the server made of them, with its limit of clients again, is one that it
@@ -27,7 +28,8 @@ pub fn no_reply_precedes_its_change()
 
 /// Whatever a crash leaves of what was kept, after any call of a run or within one that failed, has the live leases of an earlier
 /// server, and that one knows of each reply that has left. So the world's event of a server that resumes covers it: the datagrams
-/// behind are lost.
+/// behind are lost. The time of that server isn't more than 1,000 ms past the last time of what is left, of LAST and of the lines: a
+/// start that goes on a second past that one meets the premise `was.last ≤ now` of [`what_is_kept_resumes`].
 pub fn a_crash_leaves_an_earlier_server()
     ensures { CrashLeavesAnEarlierServer }
 {}
@@ -37,12 +39,12 @@ pub fn servers_go_by_turns()
     ensures { ServersGoByTurns }
 {}
 
-/// Where a server's live leases are written in place of all that was kept, its leases are kept.
+/// Where a server's live leases are written in place of all that was kept, at any time, its leases are kept.
 pub fn what_is_written_is_kept()
-    ensures { (server : ServerValue) (kept : Leases) → IsKept kept server → IsKept (after_all (begun_all (live_rows server)) no_leases) server }
+    ensures { (server : ServerValue) (kept : Leases) (at : ℕ) → IsKept kept server → IsKept (after_all (begun_all at (live_rows server)) no_leases) server }
 {}
 
-/// At 64 replies that wait they leave (our profile).
+/// At 64 replies that wait they leave, and no datagram is handled more than 1,000 ms past the last durable time (our profile).
 pub fn numbers()
-    ensures { BATCH ≡ batch }
+    ensures { (BATCH ≡ batch) × (REACH ≡ reach) }
 {}

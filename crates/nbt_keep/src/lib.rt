@@ -15,4 +15,4 @@ pub use fault::KeepFault;
 pub use looking::list_live;
 pub use staying::keep_on;
 pub use turning::keep_turn;
-pub use waiting::{BATCH, Reply, Waiting};
+pub use waiting::{BATCH, REACH, Reply, Waiting};

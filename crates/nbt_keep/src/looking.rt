@@ -1,59 +1,64 @@
 //! Looking after the file that has a server's leases.
 
-ghost use Rattle.std.specs.Prelude.{◌≡◌, OnOk, IsTrue, MatchResult};
-ghost use Rattle.nbt_store.specs.Calls.{renewing};
+ghost use Rattle.std.specs.Prelude.{◌≡◌, OnOk, OnErr, IsTrue, List, ◌||◌, MatchResult};
+ghost use Rattle.nbt_port.specs.PortCalls.{Chain};
+ghost use Rattle.nbt_store.specs.Calls.{StoreCall, renewing};
+ghost use Rattle.nbt_store.specs.declared.change.Change.TheVariants.{Looked};
+ghost use Rattle.nbt_keep.specs.Waiting.{none_waits, with_line, dropped, lay_down, laid_down, LineFails};
 ghost use Rattle.nbt_keep.specs.Runs.{live_rows};
-ghost use Rattle.nbt_keep.specs.Staying.{is_near, header_at, LooksAfter, FailsToLook};
+ghost use Rattle.nbt_keep.specs.Staying.{goes_beyond, stays_behind, is_line_due, header_at, LooksAfter, FailsToLook};
 
 use crate::waiting::Waiting;
 use nbt_lease::{Lease, Moment};
 use nbt_name::Name;
 use nbt_port::Clock;
 use nbt_server::Server;
-use nbt_store::{Broken, Header, Store};
+use nbt_store::{Broken, Change, Header, Store};
 use std::alloc::AllocError;
 
-/// How far the time of day may be from what the header expects, in milliseconds, before the file is written anew (our profile).
-const NEAR: u128 = 2_000;
+/// How far the time of day may go apart from the server's clock, in milliseconds, beside a thousandth of what that one goes on by (our profile).
+const APART: u128 = 200;
 
-/// Looks after the file at a moment, where no reply waits: reads the time of day, and writes the server's live leases anew, where the
-/// clock of the time of day was set, or the file has several times as many lines as leases with which it was written. Where memory is refused for
-/// that, the file stays, and the next look tries again. Refused with `Broken` if the store fails. `rows` is a buffer.
+/// Looks after the file at a moment, where no reply waits, and the moment isn't before the last durable time. It reads the time of
+/// day. Where the file has several times as many lines as leases with which it was written, it writes the server's live leases anew;
+/// where memory is refused for that, the next look tries again. Else a line says what both clocks tell, and becomes durable, where a
+/// quarter of the longest lease passed since the last durable time, or the two went apart by more than 200 ms and a thousandth since
+/// the pair of the header. Of what is written last the header has the moment and the time of day.
+/// Refused with `Broken` if the store fails. `rows` is a buffer.
 pub(crate) fn look_after<S: Store, D: Clock>(
     store: &mut S,
     day: &mut D,
     header: &mut Header,
     rows: &mut Vec<(Name, Lease)>,
     server: &Server,
-    waiting: &Waiting,
+    waiting: &mut Waiting,
     at: Moment,
 ) -> Result<(), Broken>
-    ensures { MatchResult result (λ _. LooksAfter S.does D.tells server.now waiting.now at store.old day.old header.old store.new day.new header.new)
-        (λ _. FailsToLook S.does D.tells server.now waiting.now at store.old day.old header.old store.new day.new header.new) }
+    ensures { MatchResult result
+        (λ _. LooksAfter S.does D.tells server.now at (record { store = store.old; day = day.old; header = header.old; waiting = waiting.old }) (record { store = store.new; day = day.new; header = header.new; waiting = waiting.new }))
+        (λ _. FailsToLook S.does D.tells server.now at (record { store = store.old; day = day.old; header = header.old; waiting = waiting.old }) (record { store = store.new; day = day.new; header = header.new; waiting = waiting.new })) }
 {
     if !waiting.is_clear() {
         return Ok(());
     }
+    if at.get() < waiting.durable() {
+        return Ok(());
+    }
     let time = day.now();
-    if is_wanted(store, header, rows, server, at, time) {
-        return renew(store, header, rows.as_slice(), at, time);
+    if is_wanted(store, rows, server) {
+        return renew(store, header, rows.as_slice(), waiting, at, time);
+    }
+    if is_line_due(header, waiting.durable(), at, time) {
+        return lay_down_look(store, header, waiting, at, time);
     }
     Ok(())
 }
 
 /// Whether the live leases are to be written anew; they are then listed.
-fn is_wanted<S: Store>(
-    store: &S,
-    header: &Header,
-    rows: &mut Vec<(Name, Lease)>,
-    server: &Server,
-    at: Moment,
-    time: Moment,
-) -> bool
+fn is_wanted<S: Store>(store: &S, rows: &mut Vec<(Name, Lease)>, server: &Server) -> bool
     ensures { IsTrue result → rows.new.items ≡ live_rows server.now }
 {
-    let stays = is_near(header, at, time) && !store.is_long();
-    if stays {
+    if !store.is_long() {
         return false;
     }
     list_live(server, rows).is_ok()
@@ -64,24 +69,61 @@ fn renew<S: Store>(
     store: &mut S,
     header: &mut Header,
     rows: &[(Name, Lease)],
+    waiting: &mut Waiting,
     at: Moment,
     time: Moment,
 ) -> Result<(), Broken>
     ensures header { header.new ≡ header_at header.old at time }
     ensures did { S.does store.old (renewing header.new rows.now result) store.new }
+    ensures ok { OnOk result (waiting.new ≡ record waiting.old { durable = at }) }
+    ensures err { OnErr result (waiting.new ≡ waiting.old) }
 {
     header.last = at.get();
     header.day = time.get();
-    store.renew(header, rows)
+    store.renew(header, rows)?;
+    waiting.renewed(at);
+    Ok(())
 }
 
-/// Whether the time of day at a moment is within 2,000 ms of what the header expects.
-fn is_near(header: &Header, at: Moment, time: Moment) -> bool
-    ensures { result ≡ is_near header.now at time }
+/// Has the store append a line of this moment and time of day, which becomes durable.
+fn lay_down_look<S: Store>(
+    store: &mut S,
+    header: &mut Header,
+    waiting: &mut Waiting,
+    at: Moment,
+    time: Moment,
+) -> Result<(), Broken>
+    ensures header { header.new ≡ header_at header.old at time }
+    ensures ok { OnOk result (Chain S.does store.old (lay_down (Looked time at)) store.new × (waiting.new ≡ laid_down (Looked time at) waiting.old)) }
+    ensures err { OnErr result ((calls : List StoreCall) × LineFails (Looked time at) calls × Chain S.does store.old calls store.new × (waiting.new ≡ dropped (with_line (Looked time at) waiting.old))) }
 {
-    let expected = u128::from(header.day) + u128::from(at.get());
-    let seen = u128::from(time.get()) + u128::from(header.last);
-    expected <= seen + NEAR && seen <= expected + NEAR
+    header.last = at.get();
+    header.day = time.get();
+    let line = Change::Looked {
+        day: time.get(),
+        at: at.get(),
+    };
+    waiting.lay_down(store, &line)
+}
+
+/// Whether a line of both clocks is due.
+fn is_line_due(header: &Header, durable: u64, at: Moment, time: Moment) -> bool
+    ensures { result ≡ is_line_due header.now durable at time }
+{
+    u128::from(durable) + 250 * u128::from(header.longest) <= u128::from(at.get())
+        || went_apart(header, at, time)
+}
+
+/// Whether the time of day and the server's clock went apart since the pair of the header.
+fn went_apart(header: &Header, at: Moment, time: Moment) -> bool
+    ensures { result ≡ (goes_beyond header.now at time || stays_behind header.now at time) }
+{
+    let last = u128::from(header.last);
+    let day = u128::from(header.day);
+    let at = u128::from(at.get());
+    let time = u128::from(time.get());
+    1000 * day + 1001 * at + 1000 * APART < 1000 * time + 1001 * last
+        || 1000 * time + 999 * last + 1000 * APART < 1000 * day + 999 * at
 }
 
 /// Lists the live leases of a server, in place of what `rows` has. Refused where it is out of memory: `rows` may then be anything.

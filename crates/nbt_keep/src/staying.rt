@@ -27,10 +27,11 @@ use std::{io, time};
 
 /// The server goes through turns as [`crate::keep_turn`] has them until the moment `until`, if there is one, and no reply waits, and
 /// through 2^61 of them at most. It stays up when the port fails, as [`stay_up`] says. What changed at the port is said in `errors` after each turn.
-/// After one that went well the clock is read, the watcher is shown what the turn was, and where no reply waits the store is looked after: the live leases are written anew
-/// in place of all changes, where the file has several times as many lines as leases with which it was written, or the time of day that `day` tells
-/// is more than 2,000 ms from what `header` expects, since that clock was set. `header` is that of the file, and has the moment and
-/// the time of day of the last such writing afterwards; `waiting` has no reply at first.
+/// After one that went well the clock is read, the watcher is shown what the turn was, and where no reply waits the store is looked
+/// after: the live leases are written anew in place of all changes, where the file has several times as many lines as leases with
+/// which it was written; else a line says what the clock and `day` tell, where a quarter of the longest lease passed since the last
+/// durable time, or the two went apart. `header` is that of the file, and has the moment and the time of day of the last such writing or
+/// line afterwards; `waiting` has no reply at first, and all is durable up to LAST of the header.
 ///
 /// Refused with `Device` at the hundredth failure of the port in a row, and with `Store` at the first failure of the store, at
 /// once; it then says in `errors` why. No reply leaves whose change isn't durable. What can't be written to `errors` is passed over.
@@ -183,12 +184,13 @@ fn after_turn<S: Store, D: Clock, E: Write>(
     header: &mut Header,
     rows: &mut Vec<(Name, Lease)>,
     server: &Server,
-    waiting: &Waiting,
+    waiting: &mut Waiting,
     until: &Option<Moment>,
     at: Moment,
     errors: &mut E,
 ) -> Turned
-    ensures { ComesTo S.does D.tells server.now waiting.now until.now at store.old day.old header.old store.new day.new header.new result }
+    ensures comes { ComesTo S.does D.tells server.now until.now at (record { store = store.old; day = day.old; header = header.old; waiting = waiting.old }) (record { store = store.new; day = day.new; header = header.new; waiting = waiting.new }) result }
+    ensures room { length waiting.old.replies < batch → length waiting.new.replies < batch }
 {
     match look_after(store, day, header, rows, server, waiting, at) {
         Ok(()) => ending(until, at, waiting),

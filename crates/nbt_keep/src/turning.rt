@@ -1,14 +1,16 @@
 //! One turn of a server that keeps its leases.
 
-ghost use Rattle.std.specs.Prelude.{◌≡◌, ◌<◌, ◌≤◌, ◌+◌, ◌^◌, not, length, Option, Some, is_some, Ok, IfOk, OnOk, OnErr, IfErr};
+ghost use Rattle.std.specs.Prelude.{◌≡◌, ◌<◌, ◌≤◌, ◌+◌, ◌^◌, ◌++◌, ◌∷◌, [], ℕ, List, not, nat_lt, length, Option, None, Some, is_some, Ok, IfOk, OnOk, OnErr, IfErr};
+ghost use Rattle.nbt_name.specs.declared.addr.Addr.{Addr as Address};
 ghost use Rattle.nbt_port.specs.PortCalls.{came, receiving, CountsFailure, Chain};
 ghost use Rattle.nbt_store.specs.Calls.{append_failed};
 ghost use Rattle.nbt_store.specs.declared.change.Change.{Change as ChangeValue};
 ghost use Rattle.nbt_serve.specs.Serving.{Turn, moments_in, IsLogged};
 ghost use Rattle.nbt_keep.specs.Changing.{IsChange};
-ghost use Rattle.nbt_keep.specs.Waiting.{batch, dropped};
-ghost use Rattle.nbt_keep.specs.Inner.Passing.{goes_to, reply_to, with_change};
-ghost use Rattle.nbt_keep.specs.Turning.{Took, Takes, changes_in, reply_in, receive_in, is_unanswered, appends_of, KeepsTurn, BreaksKeeping};
+ghost use Rattle.nbt_keep.specs.Waiting.{batch, with_line, dropped};
+ghost use Rattle.nbt_keep.specs.Inner.Passing.{goes_to};
+ghost use Rattle.nbt_keep.specs.Inner.Taking.{HasTaken, FailsToTake};
+ghost use Rattle.nbt_keep.specs.Turning.{with_any, appends_of, KeepsTurn, BreaksKeeping};
 
 use crate::changing::{change_of, changes_leases};
 use crate::fault::KeepFault;
@@ -21,10 +23,12 @@ use nbt_server::{Outcome, Server};
 use nbt_store::{Broken, Store};
 
 /// The server goes through one turn. It receives a datagram, and waits for it where no reply waits. Where one came, it reads the
-/// clock, handles the datagram at that time, has the store append what that changed, and the reply waits with those before it.
-/// Then all replies leave, where the turn has no reply, or all changes are durable, or 64 wait: changes that aren't durable first become
-/// so. `entry` is what the server did then; `None` where nothing came, and where the datagram was lost as [`nbt_serve::serve_turns`] says.
-/// `octets` and `reply` are buffers of the turn.
+/// clock; where that is more than a second past the last durable time, the time becomes durable first, with all that waits for it.
+/// Then it handles the datagram at that time, has the store append what that changed, and the reply waits with those before it.
+/// Then all replies leave, where the turn has no reply, or all is durable, or 64 wait: changes that aren't durable first become
+/// so, the clock is read once more, and a reply is dropped whose request was read longer ago than LIFE. A reply before which none
+/// waits, in a turn in which the store does nothing, leaves as it is. `entry` is what the server did then; `None` where nothing came,
+/// and where the datagram was lost as [`nbt_serve::serve_turns`] says. `octets` and `reply` are buffers of the turn.
 ///
 /// Refused with `Port` at a receive that fails, and at a send that fails: that reply is lost, and those behind it still wait.
 /// Refused with `Store` at an append or a sync that fails: all replies are dropped, and the caller must end the server. `entry` may
@@ -51,7 +55,7 @@ pub fn keep_turn<P: Port, C: Clock, S: Store>(
     ensures count { P.failures port.new ≤ P.failures port.old + 1 }
 {
     let came = receive(port, waiting.is_empty(), octets)?;
-    take_any(
+    let synced = take_any(
         clock,
         store,
         server,
@@ -61,7 +65,7 @@ pub fn keep_turn<P: Port, C: Clock, S: Store>(
         reply,
         entry,
     )?;
-    match waiting.pass(goes_to(entry), reply, port, store) {
+    match waiting.pass(goes_to(entry), reply, synced, server, port, store, clock) {
         Ok(()) => Ok(()),
         Err(why) => Err(why),
     }
@@ -104,25 +108,22 @@ fn take_any<C: Clock, S: Store>(
     octets: &[u8],
     reply: &mut ArrayVec<u8, 576>,
     entry: &mut Option<Entry>,
-) -> Result<(), Broken>
-    ensures ok { OnOk result ((took : Took) × (takes : Takes server.old took server.new) × IsLogged takes.server entry.new × (is_some took.change ≡ changes_in entry.new)
-        × (receive_in took.turn ≡ receiving (Ok came) octets.now) × (is_unanswered took.turn ≡ not (is_some (goes_to entry.new))) × (reply_in took.turn ≡ reply_to (goes_to entry.new) reply.new.items)
-        × Chain S.does store.old (appends_of took.change) store.new × Chain C.tells clock.old (moments_in took.turn) clock.new × (waiting.new ≡ with_change took.change waiting.old)) }
-    ensures err { OnErr result ((turn : Turn) × (change : ChangeValue) × Takes server.old (record { turn = turn; change = Some change }) server.new
-        × (receive_in turn ≡ receiving (Ok came) octets.now) × S.does store.old (append_failed change) store.new × Chain C.tells clock.old (moments_in turn) clock.new
-        × (waiting.new ≡ dropped)) }
+) -> Result<bool, Broken>
+    ensures ok { IfOk result (λ synced. HasTaken S.does C.tells store.old clock.old server.old waiting.old (receiving (Ok came) octets.now) entry.new reply.new.items synced store.new clock.new server.new waiting.new) }
+    ensures err { OnErr result ((from : Address) × (came ≡ Some from) × FailsToTake S.does C.tells store.old clock.old server.old waiting.old from octets.now store.new clock.new server.new waiting.new) }
 {
     match came {
         Some(from) => take(clock, store, server, waiting, from, octets, reply, entry),
         None => {
             *entry = None;
-            Ok(())
+            Ok(false)
         }
     }
 }
 
-/// Takes a datagram: handles it, and has the store append what that changed. `entry` is what the server did then; `None` where the
-/// datagram was lost. `reply` has the reply, if there is one. Refused with `Broken` if the store fails: the replies are dropped.
+/// Takes a datagram: reads the clock, makes that time durable where it is more than a second past the last durable one, handles the
+/// datagram, and has the store append what that changed. `entry` is what the server did then; `None` where the datagram was lost. `reply`
+/// has the reply, if there is one. Returns whether the time became durable. Refused with `Broken` if the store fails: the replies are dropped.
 fn take<C: Clock, S: Store>(
     clock: &mut C,
     store: &mut S,
@@ -132,24 +133,21 @@ fn take<C: Clock, S: Store>(
     octets: &[u8],
     reply: &mut ArrayVec<u8, 576>,
     entry: &mut Option<Entry>,
-) -> Result<(), Broken>
-    ensures ok { OnOk result ((took : Took) × (takes : Takes server.old took server.new) × IsLogged takes.server entry.new × (is_some took.change ≡ changes_in entry.new)
-        × (receive_in took.turn ≡ came from octets.now) × (is_unanswered took.turn ≡ not (is_some (goes_to entry.new))) × (reply_in took.turn ≡ reply_to (goes_to entry.new) reply.new.items)
-        × Chain S.does store.old (appends_of took.change) store.new × Chain C.tells clock.old (moments_in took.turn) clock.new × (waiting.new ≡ with_change took.change waiting.old)) }
-    ensures err { OnErr result ((turn : Turn) × (change : ChangeValue) × Takes server.old (record { turn = turn; change = Some change }) server.new
-        × (receive_in turn ≡ came from octets.now) × S.does store.old (append_failed change) store.new × Chain C.tells clock.old (moments_in turn) clock.new
-        × (waiting.new ≡ dropped)) }
+) -> Result<bool, Broken>
+    ensures ok { IfOk result (λ synced. HasTaken S.does C.tells store.old clock.old server.old waiting.old (came from octets.now) entry.new reply.new.items synced store.new clock.new server.new waiting.new) }
+    ensures err { OnErr result (FailsToTake S.does C.tells store.old clock.old server.old waiting.old from octets.now store.new clock.new server.new waiting.new) }
 {
     let now = clock.now();
+    let synced = waiting.reach(store, now)?;
     match server.handle(now, from, octets, reply) {
         Ok(outcome) => {
             append_change(store, waiting, server, &outcome)?;
             *entry = Some(Entry::of(from, octets, outcome));
-            Ok(())
+            Ok(synced)
         }
         Err(_) => {
             *entry = None;
-            Ok(())
+            Ok(synced)
         }
     }
 }
@@ -162,8 +160,8 @@ fn append_change<S: Store>(
     server: &Server,
     outcome: &Outcome,
 ) -> Result<(), Broken>
-    ensures ok { OnOk result ((change : Option ChangeValue) × IsChange outcome.now server.now change × Chain S.does store.old (appends_of change) store.new × (waiting.new ≡ with_change change waiting.old)) }
-    ensures err { OnErr result ((change : ChangeValue) × IsChange outcome.now server.now (Some change) × S.does store.old (append_failed change) store.new × (waiting.new ≡ dropped)) }
+    ensures ok { OnOk result ((change : Option ChangeValue) × IsChange outcome.now server.now change × Chain S.does store.old (appends_of change) store.new × (waiting.new ≡ with_any change waiting.old)) }
+    ensures err { OnErr result ((change : ChangeValue) × IsChange outcome.now server.now (Some change) × S.does store.old (append_failed change) store.new × (waiting.new ≡ dropped (with_line change waiting.old))) }
 {
     if !changes_leases(outcome) {
         return Ok(());

@@ -1,21 +1,24 @@
 //! Replies that wait until the changes that they rest on are durable.
 
-ghost use Rattle.std.specs.Prelude.{◌≡◌, ◌<◌, ◌≤◌, ◌+◌, ◌^◌, ◌↔◌, ◌||◌, ◌++◌, ◌∷◌, [], List, Bool, true, false, not, nat_le, length, map, Some, is_some, IfOk, OnOk, OnErr, IfErr, IsTrue};
+ghost use Rattle.std.specs.Prelude.{◌≡◌, ◌<◌, ◌≤◌, ◌+◌, ◌^◌, ◌↔◌, ◌||◌, ◌++◌, ◌∷◌, [], ℕ, List, Bool, true, false, not, nat_le, nat_lt, length, map, Some, is_some, IfOk, OnOk, OnErr, IfErr, IsTrue};
+ghost use Rattle.std.specs.List.{flat_map};
 ghost use Rattle.std.specs.VecDeque.{deque_capacity};
 ghost use Rattle.nbt_name.specs.declared.addr.Addr.{Addr as Address};
-ghost use Rattle.nbt_port.specs.Memory.{DatagramValue};
 ghost use Rattle.nbt_port.specs.PortCalls.{CountsFailure, Chain, send_failed};
-ghost use Rattle.nbt_store.specs.Calls.{appending, sync_failed};
+ghost use Rattle.nbt_store.specs.Calls.{StoreCall, appending, sync_failed};
+ghost use Rattle.nbt_store.specs.declared.change.Change.TheVariants.{Reached};
 ghost use Rattle.nbt_keep.specs.Devices.{DeviceCall, DeviceDoes};
-ghost use Rattle.nbt_keep.specs.Waiting.{WaitingValue, batch, none_waits, dropped, syncs_of, sends_of, leaving, value_of};
-ghost use Rattle.nbt_keep.specs.Turning.{LeavingFails};
-ghost use Rattle.nbt_keep.specs.Inner.Passing.{is_due, Leaves, reply_to, behind};
+ghost use Rattle.nbt_keep.specs.Waiting.{ReplyValue, WaitingValue, batch, none_waits, IsClear, with_line, all_durable, dropped, lay_down, laid_down, LineFails, syncs_of, sends_of, timely, leaving, value_of};
+ghost use Rattle.nbt_keep.specs.Turning.{reach, reached, with_lines, behind, LeavingFails};
+ghost use Rattle.nbt_keep.specs.Inner.Passing.{is_due, Leaves, GoesAtOnce, PassesOn, PassingFails, reply_to};
 ghost use Rattle.nbt_keep.specs.declared.fault.KeepFault.TheVariants as fault;
 
 use crate::fault::KeepFault;
 use arrayvec::ArrayVec;
+use nbt_lease::{Config, Moment};
 use nbt_name::Addr;
-use nbt_port::{Device, Port};
+use nbt_port::{Clock, Device, Port};
+use nbt_server::Server;
 use nbt_store::{Broken, Change, Store};
 use std::alloc::{AllocError, Global};
 use std::collections::VecDeque;
@@ -24,6 +27,9 @@ use std::marker::Model;
 /// At so many replies that wait they leave (our profile).
 pub const BATCH: usize = 64;
 
+/// No datagram is handled more than so many milliseconds past the last durable time (our profile).
+pub const REACH: u64 = 1_000;
+
 /// A reply.
 #[derive(Debug, Drop)]
 pub struct Reply {
@@ -31,14 +37,17 @@ pub struct Reply {
     pub to: Addr,
     /// Its octets.
     pub octets: ArrayVec<u8, 576>,
+    /// When the request was read that it answers.
+    pub read: Moment,
 }
 
-/// Replies that wait until the changes that they rest on are durable, in the order of their datagrams. A contract sees them, and
-/// whether all changes are durable.
+/// Replies that wait until the changes that they rest on are durable, in the order of their datagrams. A contract sees them, up to
+/// which time all is durable, and the time of the last line where that one isn't. Times are milliseconds of the server's clock.
 #[derive(Drop)]
 pub struct Waiting {
     replies: VecDeque<Reply>,
-    is_synced: bool,
+    durable: u64,
+    unsynced: Option<u64>,
     ghost room: { batch ≤ deque_capacity replies },
 }
 
@@ -48,18 +57,19 @@ impl Model for Waiting {
 
     ghost Value = { WaitingValue };
 
-    ghost view = { λ w. record { replies = map value_of w.replies.items; is_synced = w.is_synced } };
+    ghost view = { λ w. record { replies = map value_of w.replies.items; durable = w.durable; unsynced = w.unsynced } };
 }
 
 impl Waiting {
-    /// No reply waits. The memory for 64 of them is taken here.
-    pub fn new(alloc: Global) -> Result<Waiting, AllocError>
-        ensures { IfOk result (λ waiting. waiting ≡ none_waits) }
+    /// No reply waits, and all is durable up to this time: LAST of the file's header. The memory for 64 replies is taken here.
+    pub fn new(alloc: Global, durable: u64) -> Result<Waiting, AllocError>
+        ensures { IfOk result (λ waiting. waiting ≡ none_waits durable) }
     {
         let replies = VecDeque::with_capacity(alloc, BATCH)?;
         Ok(Waiting {
             replies,
-            is_synced: true,
+            durable,
+            unsynced: None,
         })
     }
 
@@ -77,28 +87,56 @@ impl Waiting {
         self.replies.is_empty()
     }
 
-    /// Whether no reply waits, and all changes are durable.
+    /// Up to which time all is durable, in milliseconds.
+    pub(crate) fn durable(&self) -> u64
+        ensures { result ≡ self.now.durable }
+    {
+        self.durable
+    }
+
+    /// Whether no reply waits, and all is durable.
     pub(crate) fn is_clear(&self) -> bool
-        ensures { IsTrue result ↔ (self.now ≡ none_waits) }
+        ensures { IsTrue result ↔ IsClear self.now }
     {
-        self.replies.is_empty() && self.is_synced
+        self.replies.is_empty() && self.unsynced.is_none()
     }
 
-    /// Whether they leave though more may come: all changes are durable, or as many wait as may.
+    /// Whether the reply of a turn leaves as it is: none waits, all is durable, and the turn had no sync.
+    fn goes_at_once(&self, synced: bool) -> bool
+        ensures { IsTrue result ↔ GoesAtOnce synced self.now }
+    {
+        self.is_clear() && !synced
+    }
+
+    /// Whether they leave though more may come: all is durable, or as many wait as may.
     fn is_due(&self) -> bool
-        ensures { result ≡ (self.now.is_synced || nat_le batch (length self.now.replies)) }
+        ensures { result ≡ (not (is_some self.now.unsynced) || nat_le batch (length self.now.replies)) }
     {
-        self.is_synced || self.replies.len() >= BATCH
+        self.unsynced.is_none() || self.replies.len() >= BATCH
     }
 
-    /// One more reply waits, if there is one.
-    fn put_any(&mut self, to: Option<Addr>, octets: &ArrayVec<u8, 576>)
+    /// Whether a moment is more than a second past the last durable time.
+    fn is_past(&self, now: Moment) -> bool
+        ensures { result ≡ nat_lt (self.now.durable + reach) now }
+    {
+        u128::from(self.durable) + u128::from(REACH) < u128::from(now.get())
+    }
+
+    /// The file was written anew at a time: all is durable up to then.
+    pub(crate) fn renewed(&mut self, at: Moment)
+        ensures { self.new ≡ record self.old { durable = at } }
+    {
+        self.durable = at.get();
+    }
+
+    /// One more reply waits, if there is one, to a request that was read at this moment.
+    fn put_any(&mut self, to: Option<Addr>, octets: &ArrayVec<u8, 576>, read: Moment)
         requires room { length self.old.replies < batch }
-        ensures { self.new ≡ behind self.old to octets.now.items }
+        ensures { self.new ≡ behind (reply_to read to octets.now.items) self.old }
     {
         if let Some(to) = to {
             let octets = copy_of(octets);
-            let reply = Reply { to, octets };
+            let reply = Reply { to, octets, read };
             self.replies.push_back_reserved(reply);
         }
     }
@@ -106,10 +144,10 @@ impl Waiting {
     /// Has the store append a change, which isn't durable then. Where the store fails, the replies are dropped.
     pub(crate) fn append<S: Store>(&mut self, store: &mut S, change: &Change) -> Result<(), Broken>
         ensures did { S.does store.old (appending change.now result) store.new }
-        ensures ok { OnOk result (self.new ≡ record self.old { is_synced = false }) }
-        ensures err { OnErr result (self.new ≡ dropped) }
+        ensures ok { OnOk result (self.new ≡ with_line change.now self.old) }
+        ensures err { OnErr result (self.new ≡ dropped (with_line change.now self.old)) }
     {
-        self.is_synced = false;
+        self.unsynced = Some(change.at());
         match store.append(change) {
             Ok(()) => Ok(()),
             Err(broken) => {
@@ -119,29 +157,59 @@ impl Waiting {
         }
     }
 
+    /// Has the store append a line that becomes durable at once, as all before it. Where the store fails, the replies are dropped.
+    pub(crate) fn lay_down<S: Store>(&mut self, store: &mut S, line: &Change) -> Result<(), Broken>
+        ensures ok { OnOk result (Chain S.does store.old (lay_down line.now) store.new × (self.new ≡ laid_down line.now self.old)) }
+        ensures err { OnErr result ((calls : List StoreCall) × LineFails line.now calls × Chain S.does store.old calls store.new × (self.new ≡ dropped (with_line line.now self.old))) }
+    {
+        self.append(store, line)?;
+        self.sync(store)
+    }
+
+    /// Before a datagram is handled that was read at a moment more than a second past the last durable time, that moment becomes
+    /// durable, as all before it. Returns whether it did. Where the store fails, the replies are dropped.
+    pub(crate) fn reach<S: Store>(&mut self, store: &mut S, now: Moment) -> Result<bool, Broken>
+        ensures ok { IfOk result (λ synced. (synced ≡ nat_lt (self.old.durable + reach) now)
+            × Chain S.does store.old (flat_map lay_down (reached self.old.durable (now ∷ []))) store.new × (self.new ≡ with_lines (reached self.old.durable (now ∷ [])) self.old)) }
+        ensures err { OnErr result ((nat_lt (self.old.durable + reach) now ≡ true) × (calls : List StoreCall) × LineFails (Reached now) calls
+            × Chain S.does store.old calls store.new × (self.new ≡ dropped (with_line (Reached now) self.old))) }
+    {
+        if !self.is_past(now) {
+            return Ok(false);
+        }
+        let line = Change::Reached { at: now.get() };
+        self.lay_down(store, &line)?;
+        Ok(true)
+    }
+
     /// The reply of a turn, if there is one, leaves or waits behind those that wait. All of them leave as [`Waiting::leave`] has it,
-    /// with the same refusals, where there is none, or all changes are durable, or as many wait as may. Where none waits and all
-    /// changes are durable, it is sent as it is, and never copied.
-    pub(crate) fn pass<P: Port, S: Store>(
+    /// with the same refusals, where there is none, or all is durable, or as many wait as may. Where none waits, all is durable and
+    /// the turn had no sync, it is sent as it is, and never copied. Its request was read at the server's time.
+    pub(crate) fn pass<P: Port, S: Store, C: Clock>(
         &mut self,
         to: Option<Addr>,
         octets: &ArrayVec<u8, 576>,
+        synced: bool,
+        server: &Server,
         port: &mut P,
         store: &mut S,
+        clock: &mut C,
     ) -> Result<(), KeepFault>
         requires failure_count { P.failures port.old < 2 ^ 62 }
         requires room { length self.old.replies < batch }
-        ensures ok { OnOk result ((calls : List DeviceCall) × Leaves (not (is_some to)) (behind self.old to octets.now.items) calls self.new
-            × Chain (DeviceDoes P.does S.does) (record { port = port.old; store = store.old }) calls (record { port = port.new; store = store.new })) }
-        ensures err { IfErr result (λ why. (calls : List DeviceCall) × (is_due (not (is_some to)) (behind self.old to octets.now.items) ≡ true) × LeavingFails (behind self.old to octets.now.items) why calls self.new
-            × Chain (DeviceDoes P.does S.does) (record { port = port.old; store = store.old }) calls (record { port = port.new; store = store.new })) }
+        ensures ok { OnOk result ((calls : List DeviceCall) × (readings : List ℕ) × PassesOn server.now.table.config.life (not (is_some to)) synced (reply_to server.now.last to octets.now.items) self.old calls readings self.new
+            × Chain (DeviceDoes P.does S.does) (record { port = port.old; store = store.old }) calls (record { port = port.new; store = store.new })
+            × Chain C.tells clock.old readings clock.new) }
+        ensures err { IfErr result (λ why. (calls : List DeviceCall) × (readings : List ℕ) × PassingFails server.now.table.config.life (not (is_some to)) synced (reply_to server.now.last to octets.now.items) self.old why calls readings self.new
+            × Chain (DeviceDoes P.does S.does) (record { port = port.old; store = store.old }) calls (record { port = port.new; store = store.new })
+            × Chain C.tells clock.old readings clock.new) }
         ensures count { P.failures port.new ≤ P.failures port.old + 1 }
     {
-        if self.is_clear() {
+        if self.goes_at_once(synced) {
             return send_any(to, octets.as_slice(), port);
         }
-        self.put_any(to, octets);
-        self.leave_where_due(to.is_none(), port, store)
+        self.put_any(to, octets, server.last());
+        self.leave_where_due(to.is_none(), server.table().config(), port, store, clock)
     }
 
     /// Whether they leave after a turn that has a reply or not.
@@ -151,65 +219,88 @@ impl Waiting {
         unanswered || self.is_due()
     }
 
-    /// All replies leave as [`Waiting::leave`] has it, with the same refusals, where the turn has no reply, or all changes are
-    /// durable, or as many wait as may.
-    fn leave_where_due<P: Port, S: Store>(
+    /// All replies leave as [`Waiting::leave`] has it, with the same refusals, where the turn has no reply, or all is durable, or
+    /// as many wait as may.
+    fn leave_where_due<P: Port, S: Store, C: Clock>(
         &mut self,
         unanswered: bool,
+        limits: Config,
         port: &mut P,
         store: &mut S,
+        clock: &mut C,
     ) -> Result<(), KeepFault>
         requires failure_count { P.failures port.old < 2 ^ 62 }
-        ensures ok { OnOk result ((calls : List DeviceCall) × Leaves unanswered self.old calls self.new
-            × Chain (DeviceDoes P.does S.does) (record { port = port.old; store = store.old }) calls (record { port = port.new; store = store.new })) }
-        ensures err { IfErr result (λ why. (calls : List DeviceCall) × (is_due unanswered self.old ≡ true) × LeavingFails self.old why calls self.new
-            × Chain (DeviceDoes P.does S.does) (record { port = port.old; store = store.old }) calls (record { port = port.new; store = store.new })) }
+        ensures ok { OnOk result ((calls : List DeviceCall) × (readings : List ℕ) × Leaves limits.life unanswered self.old calls readings self.new
+            × Chain (DeviceDoes P.does S.does) (record { port = port.old; store = store.old }) calls (record { port = port.new; store = store.new })
+            × Chain C.tells clock.old readings clock.new) }
+        ensures err { IfErr result (λ why. (calls : List DeviceCall) × (readings : List ℕ) × (is_due unanswered self.old ≡ true) × LeavingFails limits.life self.old why calls readings self.new
+            × Chain (DeviceDoes P.does S.does) (record { port = port.old; store = store.old }) calls (record { port = port.new; store = store.new })
+            × Chain C.tells clock.old readings clock.new) }
         ensures count { P.failures port.new ≤ P.failures port.old + 1 }
     {
         if self.is_to_leave(unanswered) {
-            self.leave(port, store)
+            self.leave(limits, port, store, clock)
         } else {
             Ok(())
         }
     }
 
-    /// All changes become durable, and then all replies leave, in order. Refused with `Store` if the store fails: the replies are
-    /// dropped; with `Port` at the first send that fails: the replies behind that one still wait.
-    fn leave<P: Port, S: Store>(&mut self, port: &mut P, store: &mut S) -> Result<(), KeepFault>
+    /// All becomes durable, the clock is read, and then the replies leave, in order: those whose requests were read no longer before
+    /// than the life of a datagram. The others are dropped. Refused with `Store` if the store fails: the replies are dropped; with
+    /// `Port` at the first send that fails: the replies behind that one still wait.
+    fn leave<P: Port, S: Store, C: Clock>(
+        &mut self,
+        limits: Config,
+        port: &mut P,
+        store: &mut S,
+        clock: &mut C,
+    ) -> Result<(), KeepFault>
         requires failure_count { P.failures port.old < 2 ^ 62 }
-        ensures ok { OnOk result (Chain (DeviceDoes P.does S.does) (record { port = port.old; store = store.old }) (leaving self.old) (record { port = port.new; store = store.new })
-            × (self.new ≡ none_waits)) }
-        ensures err { IfErr result (λ why. (calls : List DeviceCall) × LeavingFails self.old why calls self.new
-            × Chain (DeviceDoes P.does S.does) (record { port = port.old; store = store.old }) calls (record { port = port.new; store = store.new })) }
+        ensures ok { OnOk result ((now : ℕ) × Chain (DeviceDoes P.does S.does) (record { port = port.old; store = store.old }) (leaving limits.life now self.old) (record { port = port.new; store = store.new })
+            × Chain C.tells clock.old (now ∷ []) clock.new × (self.new ≡ dropped (all_durable self.old))) }
+        ensures err { IfErr result (λ why. (calls : List DeviceCall) × (readings : List ℕ) × LeavingFails limits.life self.old why calls readings self.new
+            × Chain (DeviceDoes P.does S.does) (record { port = port.old; store = store.old }) calls (record { port = port.new; store = store.new })
+            × Chain C.tells clock.old readings clock.new) }
         ensures count { P.failures port.new ≤ P.failures port.old + 1 }
     {
         self.sync(store)?;
+        self.drop_late(limits, clock.now());
         self.send_all(port)?;
         Ok(())
+    }
+
+    /// The replies are dropped that would leave too late at a moment: a datagram's life after their requests were read.
+    fn drop_late(&mut self, limits: Config, now: Moment)
+        ensures { self.new ≡ record self.old { replies = timely limits.life now self.old.replies } }
+    {
+        let life = limits.life();
+        self.replies
+            .retain(|reply| now.get() <= reply.read.get() + life);
     }
 
     /// All replies leave, in order. Refused with `Device` at the first send that fails: the replies behind that one still wait.
     fn send_all<P: Port>(&mut self, port: &mut P) -> Result<(), Device>
         requires failure_count { P.failures port.old < 2 ^ 62 }
         ensures ok { OnOk result (Chain P.does port.old (sends_of self.old.replies) port.new × (self.new ≡ record self.old { replies = [] })) }
-        ensures err { OnErr result ((before : List DatagramValue) × (lost : DatagramValue) × (self.old.replies ≡ before ++ lost ∷ self.new.replies)
-            × Chain P.does port.old (sends_of before ++ send_failed lost.addr lost.octets ∷ []) port.new × (self.new.is_synced ≡ self.old.is_synced)) }
+        ensures err { OnErr result ((before : List ReplyValue) × (lost : ReplyValue) × (self.old.replies ≡ before ++ lost ∷ self.new.replies)
+            × Chain P.does port.old (sends_of before ++ send_failed lost.datagram.addr lost.datagram.octets ∷ []) port.new × (self.new ≡ record self.old { replies = self.new.replies })) }
         ensures count { CountsFailure (P.failures port.old) (P.failures port.new) result }
     {
         send_each(&mut self.replies, port)
     }
 
-    /// All changes become durable, if they aren't. Where the store fails, the replies are dropped.
+    /// All becomes durable, if it isn't. Where the store fails, the replies are dropped.
     fn sync<S: Store>(&mut self, store: &mut S) -> Result<(), Broken>
-        ensures ok { OnOk result (Chain S.does store.old (syncs_of self.old.is_synced) store.new × (self.new ≡ record self.old { is_synced = true })) }
-        ensures err { OnErr result ((self.old.is_synced ≡ false) × S.does store.old sync_failed store.new × (self.new ≡ dropped)) }
+        ensures ok { OnOk result (Chain S.does store.old (syncs_of self.old.unsynced) store.new × (self.new ≡ all_durable self.old)) }
+        ensures err { OnErr result ((is_some self.old.unsynced ≡ true) × S.does store.old sync_failed store.new × (self.new ≡ dropped self.old)) }
     {
-        if self.is_synced {
+        let Some(at) = self.unsynced else {
             return Ok(());
-        }
+        };
         match store.sync() {
             Ok(()) => {
-                self.is_synced = true;
+                self.durable = self.durable.max(at);
+                self.unsynced = None;
                 Ok(())
             }
             Err(broken) => {
@@ -232,7 +323,7 @@ fn copy_of(octets: &ArrayVec<u8, 576>) -> ArrayVec<u8, 576>
 /// Sends a reply, if there is one. Refused with `Port` where that fails: it is lost.
 fn send_any<P: Port>(to: Option<Addr>, octets: &[u8], port: &mut P) -> Result<(), KeepFault>
     requires failure_count { P.failures port.old < 2 ^ 62 }
-    ensures ok { OnOk result (Chain P.does port.old (sends_of (reply_to to octets.now)) port.new) }
+    ensures ok { OnOk result ((read : ℕ) → Chain P.does port.old (sends_of (reply_to read to octets.now)) port.new) }
     ensures err { IfErr result (λ why. (lost : Address) × (to ≡ Some lost) × (why ≡ fault.Port) × P.does port.old (send_failed lost octets.now) port.new) }
     ensures count { P.failures port.new ≤ P.failures port.old + 1 }
 {
@@ -246,8 +337,8 @@ fn send_any<P: Port>(to: Option<Addr>, octets: &[u8], port: &mut P) -> Result<()
 fn send_each<P: Port>(replies: &mut VecDeque<Reply>, port: &mut P) -> Result<(), Device>
     requires failure_count { P.failures port.old < 2 ^ 62 }
     ensures ok { OnOk result (Chain P.does port.old (sends_of (map value_of replies.old.items)) port.new × (replies.new.items ≡ [])) }
-    ensures err { OnErr result ((before : List DatagramValue) × (lost : DatagramValue) × (map value_of replies.old.items ≡ before ++ lost ∷ map value_of replies.new.items)
-        × Chain P.does port.old (sends_of before ++ send_failed lost.addr lost.octets ∷ []) port.new) }
+    ensures err { OnErr result ((before : List ReplyValue) × (lost : ReplyValue) × (map value_of replies.old.items ≡ before ++ lost ∷ map value_of replies.new.items)
+        × Chain P.does port.old (sends_of before ++ send_failed lost.datagram.addr lost.datagram.octets ∷ []) port.new) }
     ensures capacity { deque_capacity replies.new ≡ deque_capacity replies.old }
     ensures count { CountsFailure (P.failures port.old) (P.failures port.new) result }
 {

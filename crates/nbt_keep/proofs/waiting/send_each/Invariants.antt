@@ -1,13 +1,12 @@
 use Rattle.std.proofs.Common.{◌≡◌, ◌++◌, List, map}
 use Rattle.std.specs.VecDeque.{deque_capacity, deque_len}
-use Rattle.nbt_port.specs.Memory.{DatagramValue}
 use Rattle.nbt_port.specs.PortCalls.{Chain}
-use Rattle.nbt_keep.specs.Waiting.{sends_of, value_of}
+use Rattle.nbt_keep.specs.Waiting.{ReplyValue, sends_of, value_of}
 use Rattle.nbt_keep.proofs.waiting.send_each.Given as goal
 
 abbrev pub invariant-sends : goal.invariant-sends
 invariant-sends g l = record {
-  posted : (before : List DatagramValue) × (before ++ map value_of l.replies.items ≡ map value_of l.fn.replies.items) × Chain g.P.Port.does l.fn.port (sends_of before) l.port;
+  posted : (before : List ReplyValue) × (before ++ map value_of l.replies.items ≡ map value_of l.fn.replies.items) × Chain g.P.Port.does l.fn.port (sends_of before) l.port;
   count : g.P.Port.failures l.port ≡ g.P.Port.failures l.fn.port;
   capacity : deque_capacity l.replies ≡ deque_capacity l.fn.replies;
 }

@@ -1,42 +1,75 @@
-use Rattle.std.proofs.Common.{◌≡◌, Bool, true, false, not, List, Result, sym, ap, subst}
+use Rattle.std.proofs.Common.{◌≡◌, ℕ, Bool, true, false, not, List, Result, Ok, Err, sym, ap, subst, ◌∙◌}
+use Rattle.std.proofs.lemmas.Bool.{false≢true}
 use Rattle.std.proofs.lemmas.Result.{on_ok_weaker}
-use Rattle.std.specs.Prelude.{is_some, IfErr}
+use Rattle.std.specs.Prelude.{is_some, IfErr, OnOk}
 use Rattle.nbt_port.specs.PortCalls.{Chain}
 use Rattle.nbt_keep.specs.Devices.{DeviceCall, DeviceDoes}
-use Rattle.nbt_keep.specs.Waiting.{WaitingValue}
-use Rattle.nbt_keep.specs.Turning.{LeavingFails}
-use Rattle.nbt_keep.specs.Inner.Passing.{is_due, behind}
+use Rattle.nbt_keep.specs.Waiting.{ReplyValue, WaitingValue}
+use Rattle.nbt_keep.specs.Turning.{behind, LeavingFails}
+use Rattle.nbt_keep.specs.Inner.Passing.{is_due, reply_to, Leaves, GoesAtOnce, PassesOn, leaves, PassingFails, not_left}
 use Rattle.nbt_keep.specs.declared.fault.KeepFault.{KeepFault}
-use Rattle.nbt_keep.proofs.Passed.{sent_at_once, fails_at_once}
+use Rattle.nbt_keep.proofs.Passed.{went_at_once, fails_at_once}
 use Rattle.nbt_keep.proofs.waiting.Waiting.pass.Goals as goal
 
 not_not : (a b : Bool) → a ≡ not b → b ≡ not a
 not_not a true is = ap not (sym is)
 not_not a false is = ap not (sym is)
 
-pub returns-then-is_clear-clause-ok : goal.returns-then-is_clear-clause-ok
-returns-then-is_clear-clause-ok g c =
+pub returns-then-goes_at_once-clause-ok : goal.returns-then-goes_at_once-clause-ok
+returns-then-goes_at_once-clause-ok g c =
+    let server = c.args.server.now in
     rw (sym c.as_slice.ensures.value)
     (on_ok_weaker c.send_any.result
-    (λ did. sent_at_once g.P.Port.does g.S.Store.does c.args.port.now c.send_any.new.port c.args.store.now c.args.self.now c.args.to c.as_slice.result.now (c.is_clear.ensures.0 c.if-is_clear.true) did)
-    c.send_any.ensures.ok)
+    (λ did. went_at_once g.P.Port.does g.S.Store.does g.C.Clock.tells c.args.port.now c.send_any.new.port c.args.store.now c.args.clock.now server.table.config.life c.args.synced c.args.self.now server.last c.args.to c.as_slice.result.now
+    (c.goes_at_once.ensures.0 c.if-goes_at_once.true) (did server.last)) c.send_any.ensures.ok)
 
-pub returns-then-is_clear-clause-err : goal.returns-then-is_clear-clause-err
-returns-then-is_clear-clause-err g c =
+pub returns-then-goes_at_once-clause-err : goal.returns-then-goes_at_once-clause-err
+returns-then-goes_at_once-clause-err g c =
+    let server = c.args.server.now in
     rw (sym c.as_slice.ensures.value)
-    (fails_at_once g.P.Port.does g.S.Store.does c.args.port.now c.send_any.new.port c.args.store.now c.args.self.now c.args.to c.as_slice.result.now (c.is_clear.ensures.0 c.if-is_clear.true) c.send_any.result c.send_any.ensures.err)
+    (fails_at_once g.P.Port.does g.S.Store.does g.C.Clock.tells c.args.port.now c.send_any.new.port c.args.store.now c.args.clock.now server.table.config.life c.args.synced c.args.self.now server.last c.args.to c.as_slice.result.now
+    (c.goes_at_once.ensures.0 c.if-goes_at_once.true) c.send_any.result c.send_any.ensures.err)
+
+-- what left behind the others, by the names that the contract has
+module _ (life : ℕ) (idle synced : Bool) (replies : List ReplyValue) (old new : WaitingValue) (not : ¬ GoesAtOnce synced old) (Devs : List DeviceCall → Type 0) (Told : List ℕ → Type 0) where
+  passes_behind : {A : Type 0} (b : Bool) (limit : ℕ) (mid : WaitingValue) (r : Result A KeepFault) → b ≡ idle → limit ≡ life → mid ≡ behind replies old → OnOk r ((calls : List DeviceCall) × (readings : List ℕ) × Leaves limit b mid calls readings new × Devs calls × Told readings)
+      → OnOk r ((calls : List DeviceCall) × (readings : List ℕ) × PassesOn life idle synced replies old calls readings new × Devs calls × Told readings)
+  passes_behind b limit mid (Ok done) idle_is life_is all_is l = (
+    l.0,
+    l.1,
+    leaves l.0 l.1 new not (subst (λ (w : WaitingValue). Leaves life idle w l.0 l.1 new) all_is (subst (λ (n : ℕ). Leaves n idle mid l.0 l.1 new) life_is (subst (λ (x : Bool). Leaves limit x mid l.0 l.1 new) idle_is l.2))),
+    l.3,
+    l.4,
+  )
+  passes_behind b limit mid (Err why) idle_is life_is all_is l = tt
+
+  fails_behind : {A : Type 0} (b : Bool) (limit : ℕ) (mid : WaitingValue) (r : Result A KeepFault) → b ≡ idle → limit ≡ life → mid ≡ behind replies old
+      → IfErr r (λ why. (calls : List DeviceCall) × (readings : List ℕ) × (is_due b mid ≡ true) × LeavingFails limit mid why calls readings new × Devs calls × Told readings)
+      → IfErr r (λ why. (calls : List DeviceCall) × (readings : List ℕ) × PassingFails life idle synced replies old why calls readings new × Devs calls × Told readings)
+  fails_behind b limit mid (Ok done) idle_is life_is all_is l = tt
+  fails_behind b limit mid (Err why) idle_is life_is all_is l = (
+    l.0,
+    l.1,
+    not_left why l.0 l.1 new not (subst (λ (w : WaitingValue). is_due idle w ≡ true) all_is (subst (λ (x : Bool). is_due x mid ≡ true) idle_is l.2))
+        (subst (λ (w : WaitingValue). LeavingFails life w why l.0 l.1 new) all_is (subst (λ (n : ℕ). LeavingFails n mid why l.0 l.1 new) life_is l.3)),
+    l.4,
+    l.5,
+  )
 
 pub returns-clause-ok : goal.returns-clause-ok
-returns-clause-ok g c = rw (sym (not_not (is_some c.args.to) c.is_none.result c.is_none.ensures), sym c.put_any.ensures) c.leave_where_due.ensures.ok
-
-fails_behind : {A : Type 0} (Calls : List DeviceCall → Type 0) (b idle : Bool) (mid all new : WaitingValue) (r : Result A KeepFault) → b ≡ idle → mid ≡ all
-    → IfErr r (λ why. (calls : List DeviceCall) × (is_due b mid ≡ true) × LeavingFails mid why calls new × Calls calls) → IfErr r (λ why. (calls : List DeviceCall) × (is_due idle all ≡ true) × LeavingFails all why calls new × Calls calls)
-fails_behind Calls b idle mid all new r idle_is all_is fails =
-    subst (λ (x : Bool). IfErr r (λ why. (calls : List DeviceCall) × (is_due x all ≡ true) × LeavingFails all why calls new × Calls calls)) idle_is
-    (subst (λ (w : WaitingValue). IfErr r (λ why. (calls : List DeviceCall) × (is_due b w ≡ true) × LeavingFails w why calls new × Calls calls)) all_is fails)
+returns-clause-ok g c =
+    let server = c.args.server.now in
+    passes_behind server.table.config.life (not (is_some c.args.to)) c.args.synced (reply_to server.last c.args.to c.args.octets.now.items) c.args.self.now c.leave_where_due.new.self
+    (λ at_once. false≢true (sym c.if-goes_at_once.false ∙ c.goes_at_once.ensures.1 at_once))
+    (λ calls. Chain (DeviceDoes g.P.Port.does g.S.Store.does) (record { port = c.args.port.now; store = c.args.store.now }) calls (record { port = c.leave_where_due.new.port; store = c.leave_where_due.new.store }))
+    (λ readings. Chain g.C.Clock.tells c.args.clock.now readings c.leave_where_due.new.clock) c.is_none.result c.config.result.life c.put_any.new.self c.leave_where_due.result (not_not (is_some c.args.to) c.is_none.result c.is_none.ensures)
+    (ap (λ n. n.life) (c.config.ensures ∙ ap (λ t. t.config) c.table.ensures.table)) (c.put_any.ensures ∙ ap (λ (n : ℕ). behind (reply_to n c.args.to c.args.octets.now.items) c.args.self.now) c.last.ensures.last) c.leave_where_due.ensures.ok
 
 pub returns-clause-err : goal.returns-clause-err
 returns-clause-err g c =
-    fails_behind (λ calls. Chain (DeviceDoes g.P.Port.does g.S.Store.does) (record { port = c.args.port.now; store = c.args.store.now }) calls (record { port = c.leave_where_due.new.port; store = c.leave_where_due.new.store })) c.is_none.result
-    (not (is_some c.args.to)) c.put_any.new.self (behind c.args.self.now c.args.to c.args.octets.now.items) c.leave_where_due.new.self c.leave_where_due.result (not_not (is_some c.args.to) c.is_none.result c.is_none.ensures) c.put_any.ensures
-    c.leave_where_due.ensures.err
+    let server = c.args.server.now in
+    fails_behind server.table.config.life (not (is_some c.args.to)) c.args.synced (reply_to server.last c.args.to c.args.octets.now.items) c.args.self.now c.leave_where_due.new.self
+    (λ at_once. false≢true (sym c.if-goes_at_once.false ∙ c.goes_at_once.ensures.1 at_once))
+    (λ calls. Chain (DeviceDoes g.P.Port.does g.S.Store.does) (record { port = c.args.port.now; store = c.args.store.now }) calls (record { port = c.leave_where_due.new.port; store = c.leave_where_due.new.store }))
+    (λ readings. Chain g.C.Clock.tells c.args.clock.now readings c.leave_where_due.new.clock) c.is_none.result c.config.result.life c.put_any.new.self c.leave_where_due.result (not_not (is_some c.args.to) c.is_none.result c.is_none.ensures)
+    (ap (λ n. n.life) (c.config.ensures ∙ ap (λ t. t.config) c.table.ensures.table)) (c.put_any.ensures ∙ ap (λ (n : ℕ). behind (reply_to n c.args.to c.args.octets.now.items) c.args.self.now) c.last.ensures.last) c.leave_where_due.ensures.err
