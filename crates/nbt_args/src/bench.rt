@@ -152,6 +152,8 @@ line. Blank lines and lines that begin with `#` are passed over. At most 1048576
   holders NAME                     who holds a name: prints `holders FRED: n1 unique`, or `holders FRED: none`
   kept                             prints `kept` where each end's clock kept within one part in a thousand and a millisecond
                                    of the true one so far, and `broken` where one didn't
+  timely                           prints `timely` where none went ahead of it by more, and no node's fell behind it by more,
+                                   and `untimely` where one did: the server's may be slow or stand
 
 What a node does prints `sent K`, with the number of the datagram counted from 0, `refused NUMBER WORD`, `none`, or `down`.
 A delivery prints `nobody`, `lost`, `down`, `sent K` where the end replies, or `taken`. A line that can't be read prints

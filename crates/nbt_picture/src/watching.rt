@@ -29,7 +29,9 @@ impl Sketch {
                 Report::Event(outcome) => self.watch_event(event, *outcome, world, line),
                 _ => Ok(()),
             },
-            Instruction::Holders(_) | Instruction::Kept => self.note(line, world),
+            Instruction::Holders(_) | Instruction::Kept | Instruction::Timely => {
+                self.note(line, world)
+            }
         }
     }
 

@@ -12,7 +12,7 @@ use Rattle.nbt_sim.specs.declared.instruction.Line.{Line}
 use Rattle.nbt_sim.specs.declared.instruction.Line.TheVariants as line
 use Rattle.nbt_sim.specs.declared.instruction.Instruction.TheVariants as instruction
 use Rattle.nbt_sim.specs.declared.verb.Verb.{Verb}
-use Rattle.nbt_sim.specs.declared.verb.Verb.TheVariants.{Config, At, Advance, Start, Crash, Resume, Ask, Release, Resolve, Status, Poll, Deliver, Stranger, Beside, Holders, Kept}
+use Rattle.nbt_sim.specs.declared.verb.Verb.TheVariants.{Config, At, Advance, Start, Crash, Resume, Ask, Release, Resolve, Status, Poll, Deliver, Stranger, Beside, Holders, Kept, Timely}
 use Rattle.nbt_sim.specs.Arguments.{NoMore, Then, SpellsWorld, SpellsMoves, first, second, third, fourth}
 use Rattle.nbt_sim.specs.Words.{verb_word, SpellsNode, SpellsServer, SpellsEnd, SpellsKind, SpellsSeconds, SpellsMoment}
 
@@ -33,7 +33,7 @@ SpellsComing = Then SpellsAddress (Then SpellsEnd (Then SpellsDatagram NoMore))
 -- What the words after a verb say, in their order: `config LIFE LONGEST ROWS NODES`, `at MS`, `advance MS S N1 ..`, where
 -- MS is of the true clock, S of the server's, and the others are of the nodes', `start E`, `crash E`, `resume s`,
 -- `ask NODE NAME KIND TTL`, `release NODE NAME`, `resolve NODE NAME`, `status NODE ADDRESS NAME`, `poll NODE`,
--- `deliver K`, `stranger ADDRESS E HEX`, `beside ADDRESS E HEX`, `holders NAME`, `kept`.
+-- `deliver K`, `stranger ADDRESS E HEX`, `beside ADDRESS E HEX`, `holders NAME`, `kept`, `timely`.
 abbrev pub SaysOf : Verb → List (List ℕ) → Instruction → Type 0
 SaysOf Config = Makes SpellsWorld (λ v. instruction.Config v.0 v.1)
 SaysOf At = Makes (Then SpellsMoment NoMore) (λ v. instruction.At (first v))
@@ -51,6 +51,7 @@ SaysOf Stranger = Makes SpellsComing (λ v. instruction.Happens (event.Stranger 
 SaysOf Beside = Makes SpellsComing (λ v. instruction.Happens (event.Beside (first v) (second v) (third v)))
 SaysOf Holders = Makes (Then SpellsName NoMore) (λ v. instruction.Holders (first v))
 SaysOf Kept = Makes NoMore (λ v. instruction.Kept)
+SaysOf Timely = Makes NoMore (λ v. instruction.Timely)
 
 -- What the words of a line say.
 pub data Says : List (List ℕ) → Instruction → Type 0 where

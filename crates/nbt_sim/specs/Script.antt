@@ -27,7 +27,7 @@ use Rattle.nbt_sim.specs.declared.script.Played.TheVariants as played
 use Rattle.nbt_sim.specs.declared.instruction.Instruction.{Instruction}
 use Rattle.nbt_sim.specs.declared.instruction.Instruction.TheVariants as instruction
 use Rattle.nbt_sim.specs.Line.{Says}
-use Rattle.nbt_sim.specs.Words.{kind_word, kept_word}
+use Rattle.nbt_sim.specs.Words.{kind_word, kept_word, timely_word}
 
 -- ---- the world of a script
 
@@ -59,6 +59,7 @@ Fits (Some world) (instruction.Advance ms moves) = AreForEnds world moves.items
 Fits (Some world) (instruction.Happens event) = Unit {0}
 Fits (Some world) (instruction.Holders name) = Unit {0}
 Fits (Some world) instruction.Kept = Unit {0}
+Fits (Some world) instruction.Timely = Unit {0}
 
 -- ---- what is printed
 
@@ -106,6 +107,7 @@ pub data Prints : Instruction → Report → List ℕ → Type 0 where
   prints_outcome : (event : Event) (outcome : Outcome) (text : List ℕ) → PrintsOutcome event outcome text → Prints (instruction.Happens event) (report.Event outcome) (text ++ newline)
   prints_holders : (name : NameValue) (printed : List ℕ) (holders : ArrayVec Holder) → PrintsName name printed → Prints (instruction.Holders name) (report.Holders holders) (holders_line printed holders.items)
   prints_kept : (i : Instruction) (kept : Bool) → Prints i (report.Kept kept) (kept_word kept ++ newline)
+  prints_timely : (i : Instruction) (timely : Bool) → Prints i (report.Timely timely) (timely_word timely ++ newline)
 
 -- ---- what is done
 
@@ -124,6 +126,7 @@ pub data Does : Option WorldValue → Instruction → Option WorldValue → Repo
   happens : (event : Event) (outcome : Outcome) (world next : WorldValue) → Step world event outcome next → Does (Some world) (instruction.Happens event) (Some next) (report.Event outcome)
   looks_up : (name : NameValue) (holders : ArrayVec Holder) (world : WorldValue) → AreHolders world name holders.items → Does (Some world) (instruction.Holders name) (Some world) (report.Holders holders)
   looks_back : (world : WorldValue) → Does (Some world) instruction.Kept (Some world) (report.Kept world.kept)
+  tells_timely : (world : WorldValue) → Does (Some world) instruction.Timely (Some world) (report.Timely world.timely)
 
 -- The words say nothing, or what can't be done in this world.
 pub data IsUnreadable (world : Option WorldValue) (words : List (List ℕ)) : Type 0 where

@@ -6,7 +6,7 @@ use Rattle.nbt_name.specs.declared.addr.Kind.TheVariants.{Unique, Group}
 use Rattle.nbt_lease.specs.Config.{last_moment}
 use Rattle.nbt_text.specs.Number.{SpellsNumber}
 use Rattle.nbt_sim.specs.declared.verb.Verb.{Verb}
-use Rattle.nbt_sim.specs.declared.verb.Verb.TheVariants.{Config, At, Advance, Start, Crash, Resume, Ask, Release, Resolve, Status, Poll, Deliver, Stranger, Beside, Holders, Kept}
+use Rattle.nbt_sim.specs.declared.verb.Verb.TheVariants.{Config, At, Advance, Start, Crash, Resume, Ask, Release, Resolve, Status, Poll, Deliver, Stranger, Beside, Holders, Kept, Timely}
 
 -- ---- the words of a line
 
@@ -28,6 +28,7 @@ verb_word Stranger = codes "stranger"
 verb_word Beside = codes "beside"
 verb_word Holders = codes "holders"
 verb_word Kept = codes "kept"
+verb_word Timely = codes "timely"
 
 -- nodes are `n1` to `n8`
 pub record SpellsNode (word : List ℕ) (number : ℕ) : Type 0 where
@@ -65,3 +66,7 @@ pub record SpellsMoment (word : List ℕ) (moment : ℕ) : Type 0 where
 abbrev pub kept_word : (kept : Bool) → List ℕ
 kept_word true = codes "kept"
 kept_word false = codes "broken"
+
+abbrev pub timely_word : (timely : Bool) → List ℕ
+timely_word true = codes "timely"
+timely_word false = codes "untimely"

@@ -38,6 +38,8 @@ pub enum Instruction {
     Holders(Name),
     /// Whether the clocks kept the drift bound so far.
     Kept,
+    /// Whether no clock was faster than the drift bound lets it be so far, and no node's slower.
+    Timely,
 }
 
 /// What stands in a line.
@@ -115,6 +117,7 @@ fn arguments_of(verb: Verb, words: &[&[u8]]) -> Option<Instruction>
         Verb::Stranger | Verb::Beside => unreachable!(),
         Verb::Holders => <(Name, ())>::read_all(words).map(|(name, ())| Instruction::Holders(name)),
         Verb::Kept => <()>::read_all(words).map(|()| Instruction::Kept),
+        Verb::Timely => <()>::read_all(words).map(|()| Instruction::Timely),
     }
 }
 

@@ -12,7 +12,7 @@ ghost use Rattle.nbt_text.specs.NameText.{PrintsName};
 ghost use Rattle.nbt_world.specs.World.{WorldValue};
 ghost use Rattle.nbt_world.specs.Step.{Step};
 ghost use Rattle.nbt_sim.specs.Script.{Does, NamesRefusal, Prints, PrintsOutcome, holder_text, holders_line, holders_text};
-ghost use Rattle.nbt_sim.specs.Words.{kept_word, kind_word};
+ghost use Rattle.nbt_sim.specs.Words.{kept_word, kind_word, timely_word};
 
 use crate::instruction::Instruction;
 use crate::report::Report;
@@ -47,6 +47,7 @@ pub fn write_report(
             write_holders(name, holders.as_slice(), out)
         }
         Report::Kept(kept) => write_kept(*kept, out),
+        Report::Timely(timely) => write_timely(*timely, out),
     }
 }
 
@@ -126,6 +127,13 @@ fn write_kept(kept: bool, out: &mut String) -> Result<(), AllocError>
     ensures { OnOk result (string_bytes out.new ≡ string_bytes out.old ++ kept_word kept ++ newline) }
 {
     out.push_str(if kept { "kept\n" } else { "broken\n" })
+}
+
+/// Appends the line of whether the clocks were timely so far.
+fn write_timely(timely: bool, out: &mut String) -> Result<(), AllocError>
+    ensures { OnOk result (string_bytes out.new ≡ string_bytes out.old ++ timely_word timely ++ newline) }
+{
+    out.push_str(if timely { "timely\n" } else { "untimely\n" })
 }
 
 /// Appends holders, or `none` where there are none.

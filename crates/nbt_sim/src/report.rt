@@ -14,4 +14,6 @@ pub enum Report {
     Holders(ArrayVec<Holder, 8>),
     /// Whether the clocks kept the drift bound so far.
     Kept(bool),
+    /// Whether no clock was faster than the drift bound lets it be so far, and no node's slower.
+    Timely(bool),
 }

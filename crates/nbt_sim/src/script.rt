@@ -112,6 +112,7 @@ fn follow(
         },
         Instruction::Holders(name) => Ok(Some(Report::Holders(world.holders(name)))),
         Instruction::Kept => Ok(Some(Report::Kept(world.kept()))),
+        Instruction::Timely => Ok(Some(Report::Timely(world.timely()))),
     }
 }
 

@@ -39,6 +39,8 @@ pub enum Verb {
     Holders,
     /// `kept`: whether the clocks kept the drift bound.
     Kept,
+    /// `timely`: whether no clock was too fast, and no node's too slow.
+    Timely,
 }
 
 /// The verb that a word is.
@@ -62,6 +64,7 @@ pub fn verb_of(word: &[u8]) -> Option<Verb>
         b"beside" => Some(Verb::Beside),
         b"holders" => Some(Verb::Holders),
         b"kept" => Some(Verb::Kept),
+        b"timely" => Some(Verb::Timely),
         _ => None,
     }
 }

@@ -41,5 +41,8 @@ returns-in-Holders c = λ i. rw c.in-Holders.is (made _ _ _ c.read_all-in-Holder
 pub returns-in-Kept : goal.returns-in-Kept
 returns-in-Kept c = λ i. rw c.in-Kept.is (made _ _ _ c.read_all-in-Kept.result c.map-in-Kept.result _ i c.read_all-in-Kept.ensures c.map-in-Kept.ensures.cases (λ x r p. search rules))
 
+pub returns-in-Timely : goal.returns-in-Timely
+returns-in-Timely c = λ i. rw c.in-Timely.is (made _ _ _ c.read_all-in-Timely.result c.map-in-Timely.result _ i c.read_all-in-Timely.ensures c.map-in-Timely.ensures.cases (λ x r p. search rules))
+
 pub returns-in-Ask : goal.returns-in-Ask
 returns-in-Ask c = λ i. rw c.in-Ask.is (c.ask_of.ensures i)

@@ -3,8 +3,8 @@ use Rattle.std.proofs.lemmas.List.{append-nil}
 use Rattle.std.proofs.lemmas.Result.{on_ok_weaker}
 use Rattle.std.specs.String.{string_bytes}
 use Rattle.nbt_text.specs.Lines.{newline}
-use Rattle.nbt_sim.specs.Script.{holders_line, prints_nothing, prints_outcome, prints_holders, prints_kept}
-use Rattle.nbt_sim.specs.Words.{kept_word}
+use Rattle.nbt_sim.specs.Script.{holders_line, prints_nothing, prints_outcome, prints_holders, prints_kept, prints_timely}
+use Rattle.nbt_sim.specs.Words.{kept_word, timely_word}
 use Rattle.nbt_sim.proofs.printing.write_report.Goals as goal
 
 pub returns-in-Quiet : goal.returns-in-Quiet
@@ -24,3 +24,8 @@ pub returns-in-Kept : goal.returns-in-Kept
 returns-in-Kept c =
     rw c.in-Kept.is (on_ok_weaker c.write_kept.result
     (λ h. (kept_word c.in-Kept.kept ++ newline, h ∙ append_assoc (string_bytes c.args.out.now) (kept_word c.in-Kept.kept) newline, prints_kept c.args.instruction.now c.in-Kept.kept)) c.write_kept.ensures)
+
+pub returns-in-Timely : goal.returns-in-Timely
+returns-in-Timely c =
+    rw c.in-Timely.is (on_ok_weaker c.write_timely.result
+    (λ h. (timely_word c.in-Timely.timely ++ newline, h ∙ append_assoc (string_bytes c.args.out.now) (timely_word c.in-Timely.timely) newline, prints_timely c.args.instruction.now c.in-Timely.timely)) c.write_timely.ensures)

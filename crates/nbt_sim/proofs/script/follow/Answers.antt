@@ -1,4 +1,4 @@
-use Rattle.nbt_sim.specs.Script.{happens, looks_up, looks_back}
+use Rattle.nbt_sim.specs.Script.{happens, looks_up, looks_back, tells_timely}
 use Rattle.nbt_sim.proofs.script.follow.Goals as goal
 
 pub returns-in-Advance : goal.returns-in-Advance
@@ -12,3 +12,6 @@ returns-in-Holders c = rw (c.in-Some.is, c.in-Holders.is) (looks_up c.in-Holders
 
 pub returns-in-Kept : goal.returns-in-Kept
 returns-in-Kept c = rw (c.in-Some.is, c.in-Kept.is, c.kept.ensures) (looks_back c.in-Some.world)
+
+pub returns-in-Timely : goal.returns-in-Timely
+returns-in-Timely c = rw (c.in-Some.is, c.in-Timely.is, c.timely.ensures.told) (tells_timely c.in-Some.world)
