@@ -255,9 +255,9 @@ themselves. The standard port is 137, for which most systems require privileges.
 
 With --state it writes each change of a lease to FOLDER/leases before its reply leaves, and a later start goes on at once: the
 first line is `serving 192.0.2.1:137, with 17 leases kept`. Where it can't go on, the line says why: `silent for 300 s until
-2026-11-24T09:17:03Z, since nothing was kept`. After another boot it goes on too, by the time of day, which nobody may have set
-in between, unless --silent-after-boot. What FOLDER has must be what this server kept last: a copy or an older state may grant a
-name to a second machine. FOLDER must exist, and one server at a time may use it.
+2026-11-24T09:17:03Z, since nothing was kept`. After another boot, or on another machine, it goes on too, a second later, unless
+--silent-after-boot. What FOLDER has must be what this server kept last: a copy or an older state may grant a name to a second
+machine. FOLDER must exist, and one server at a time may use it: it ends with status 3 if FOLDER is moved or replaced.
 
 A reply leaves from the address at which its request came. Without --bind it serves every IPv4 address of the machine at port 137,
 by a socket for each: standard error says when one comes or goes. --bind 0.0.0.0 is one socket for all, which hears broadcasts too,
