@@ -5,12 +5,18 @@ use nbt_name::Name;
 use nbt_store::{Boot, Header};
 use std::process::Abort;
 
+mod clocks;
 mod counting;
+mod damage;
 mod disks;
 mod expect;
+mod first_lines;
 mod folders;
 mod following;
 mod keeping;
+mod locks;
+mod older;
+mod outlasting;
 mod restarts;
 mod resuming;
 mod stage;

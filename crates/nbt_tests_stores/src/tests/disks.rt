@@ -1,13 +1,15 @@
 //! Stores over a disk in memory: what a crash leaves of them, with trouble at each call.
 
-use super::expect::{expect, expect_eq_in, expect_in};
+use super::expect::{expect, expect_eq, expect_eq_in, expect_in};
+use super::store::{FILE, changes, fred_lease};
 use super::{fred, header, team};
 use nbt_lease::Lease;
 use nbt_name::{Kind, Name};
 use nbt_store::{
-    Broken, Change, DiskStore, Header, Loaded, MemoryDisk, ReadFault, Store, Trouble, load,
+    Broken, Change, Disk, DiskStore, Header, Loaded, MemoryDisk, ReadFault, Store, Trouble, load,
 };
 use std::alloc::Global;
+use std::cell::Cell;
 use std::io;
 use std::process::Abort;
 
@@ -24,7 +26,7 @@ const CALLS: usize = 15;
 const WRITES: [usize; 7] = [3, 4, 6, 7, 10, 12, 13];
 
 /// How many octets the line of a change here has at most.
-const LINE: usize = 46;
+const LINE: usize = 49;
 
 /// More than a crash can leave here in different ways.
 const MANY: usize = 2_000;
@@ -48,7 +50,11 @@ fn row(rt: &impl Abort, number: u32) -> (Name, Lease) {
 /// The lease of this number begins.
 fn append(rt: &impl Abort, store: &mut DiskStore<MemoryDisk>, number: u32) -> Result<(), Broken> {
     let (name, lease) = row(rt, number);
-    store.append(&Change::Began { name, lease })
+    store.append(&Change::Began {
+        name,
+        lease,
+        at: OLD,
+    })
 }
 
 /// The second, the fourth and the sixth change are synced, and the third is in a file that is written anew. Returns whether that
@@ -275,5 +281,119 @@ fn refused_memory_of_a_store(rt: HostRuntime) {
     let (durable, _) = crash(&rt, failing);
     if durable < 6 {
         expect_eq_in(&rt, &failing, &crash(&rt, failing), &(6, (false, true)));
+    }
+}
+
+/// The file that a store writes anew at 88, of the same lease, and then has the same changes. The checksums were computed apart from this
+/// program.
+const WRITTEN_ANEW: &str = "nbt leases, version 3\n\
+1000 60 4096 boot-1 7 5 88 1700000000000 1 b3b48e8c\n\
+began FRED 192.0.2.7:137 - unique 60077 88 1a72ebcc\n\
+began TEAM 192.0.2.8:137 - group 60078 80 34fb6a9f\n\
+moved FRED 192.0.2.7:137 65000 5000 dfb98546\n\
+reached 6200 1dbeae81\n\
+looked 1700000007000 7077 0530e599\n\
+released TEAM 192.0.2.8:137 7100 c2902689\n";
+
+/// The store appends a line for each change of the file.
+fn append_all(rt: &impl Abort, store: &mut DiskStore<MemoryDisk>) {
+    for change in changes(rt).iter() {
+        expect_eq(rt, &store.append(change), &Ok(()));
+    }
+}
+
+/// The file of the store is this text.
+fn expect_text(rt: &impl Abort, store: &DiskStore<MemoryDisk>, text: &str) {
+    let got = str::from_utf8(store.disk().octets()).ok();
+    expect_eq(rt, &got, &Some(text))
+}
+
+/// Each line goes on from the one before it, also once the file was written anew, and whatever was synced.
+#[test]
+fn lines_of_a_store_go_on_from_those_before(rt: HostRuntime) {
+    let rows = [(fred(&rt, b""), fred_lease())];
+    let disk = MemoryDisk::new(rt.alloc(), None);
+    let mut store = DiskStore::open(disk, rt.alloc(), &header(&rt, OLD), &rows).expect(&rt, "open");
+    append_all(&rt, &mut store);
+    expect_eq(&rt, &store.sync(), &Ok(()));
+    expect_text(&rt, &store, FILE);
+    expect_eq(&rt, &store.renew(&header(&rt, NEW), &rows), &Ok(()));
+    append_all(&rt, &mut store);
+    expect_text(&rt, &store, WRITTEN_ANEW)
+}
+
+/// A disk that counts how often it is asked whether it is still there, and says that it isn't where it is to.
+#[derive(Drop)]
+struct Asked {
+    beneath: MemoryDisk,
+    count: Cell<usize>,
+    is_gone: bool,
+}
+
+impl Disk for Asked {
+    ghost use Rattle.std.specs.Prelude.{⊤};
+
+    ghost does = { λ _ _ _. ⊤ };
+
+    fn check(&self) -> io::Result<()> {
+        self.count.set(self.count.get().saturating_add(1));
+        if self.is_gone {
+            return Err(io::Error::other("it is gone"));
+        }
+        Ok(())
+    }
+
+    fn create(&mut self, octets: &[u8]) -> io::Result<()> {
+        self.beneath.create(octets)
+    }
+
+    fn append(&mut self, octets: &[u8]) -> io::Result<()> {
+        self.beneath.append(octets)
+    }
+
+    fn sync(&mut self) -> io::Result<()> {
+        self.beneath.sync()
+    }
+
+    fn install(&mut self) -> io::Result<()> {
+        self.beneath.install()
+    }
+}
+
+/// Whether the disk is asked before the line of each change of the file: where no lease changed.
+const LOOKS: [bool; 5] = [false, false, true, true, false];
+
+/// A store over such a disk, whose file has a lease.
+fn open_asked(rt: &(impl Abort + AllocGlobal), is_gone: bool) -> DiskStore<Asked> {
+    let rows = [(fred(rt, b""), fred_lease())];
+    let disk = Asked {
+        beneath: MemoryDisk::new(rt.alloc(), None),
+        count: Cell::new(0),
+        is_gone,
+    };
+    DiskStore::open(disk, rt.alloc(), &header(rt, OLD), &rows).expect(rt, "open")
+}
+
+/// Before the line of this change the disk is asked or not; and where it is gone then, nothing is written, and the store is broken.
+fn see_asked(rt: &(impl Abort + AllocGlobal), change: &Change, looks: bool) {
+    let mut store = open_asked(rt, false);
+    expect_eq_in(rt, change, &store.append(change), &Ok(()));
+    expect_eq_in(rt, change, &store.disk().count.get(), &usize::from(looks));
+    let mut gone = open_asked(rt, true);
+    let before = gone.disk().beneath.octets().len();
+    expect_in(rt, change, gone.append(change).is_err() == looks);
+    expect_in(
+        rt,
+        change,
+        (gone.disk().beneath.octets().len() == before) == looks,
+    );
+    expect_in(rt, change, gone.error().is_some() == looks);
+    expect_in(rt, change, gone.sync().is_err() == looks)
+}
+
+#[test]
+fn a_disk_is_asked_before_a_line_of_no_lease(rt: HostRuntime) {
+    for (change, looks) in changes(&rt).iter().zip(&LOOKS) {
+        see_asked(&rt, change, *looks);
     }
 }

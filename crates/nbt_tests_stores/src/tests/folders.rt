@@ -18,7 +18,7 @@ use std::rt::Files;
 use std::{env, fs, io, process, time};
 
 /// A path in the folder for temporary files that no other test has.
-fn path_for(rt: &HostRuntime, name: &str) -> Option<String> {
+pub fn path_for(rt: &HostRuntime, name: &str) -> Option<String> {
     let folder = env::temp_dir(rt).ok()?;
     let folder = folder.as_path().to_str()?;
     let id = process::id(rt.process());
@@ -26,17 +26,17 @@ fn path_for(rt: &HostRuntime, name: &str) -> Option<String> {
 }
 
 /// The path of a file of a folder.
-fn path_in<R: Abort + AllocGlobal + Files>(rt: &R, folder: &str, name: &str) -> String {
+pub fn path_in<R: Abort + AllocGlobal + Files>(rt: &R, folder: &str, name: &str) -> String {
     format!(in rt.alloc(); "{folder}/{name}").expect(rt, "memory")
 }
 
 /// The text of a file of a folder; none where there is no such file.
-fn text_in<R: Abort + AllocGlobal + Files>(rt: &R, folder: &str, name: &str) -> Option<String> {
+pub fn text_in<R: Abort + AllocGlobal + Files>(rt: &R, folder: &str, name: &str) -> Option<String> {
     let path = path_in(rt, folder, name);
     fs::read_to_string(rt, path.as_str()).ok()
 }
 
-fn row(rt: &impl Abort) -> (Name, Lease) {
+pub fn row(rt: &impl Abort) -> (Name, Lease) {
     let lease = Lease {
         addr: 0x7F00_0002,
         kind: Kind::Unique,
@@ -48,7 +48,7 @@ fn row(rt: &impl Abort) -> (Name, Lease) {
     )
 }
 
-fn header(rt: &impl Abort) -> Header {
+pub fn header(rt: &impl Abort) -> Header {
     let boot = Boot::new(b"boot-1").expect(rt, "a boot");
     let now = Moment::new(5).expect(rt, "a moment");
     Header::new(
@@ -73,7 +73,8 @@ fn kept<R: Abort + AllocGlobal + Files>(rt: &R, folder: &str) -> usize {
 /// More changes of a lease than a short file has, and than 64 KiB hold.
 const MANY: usize = 2_000;
 
-/// The lease moves so often that the file is long. Where a new file can't be written, since a device is there, the store says why it failed.
+/// The lease moves so often that the file is long. Where a new file can't be written, since a device is there, the store says why it
+/// failed.
 fn expect_long<R: Abort + AllocGlobal + Files + time::Clock>(
     rt: &R,
     folder: &str,
@@ -85,7 +86,12 @@ fn expect_long<R: Abort + AllocGlobal + Files + time::Clock>(
         let (name, lease) = row(rt);
         let (addr, end) = (lease.addr, lease.end);
         store
-            .append(&Change::Moved { name, addr, end })
+            .append(&Change::Moved {
+                name,
+                addr,
+                end,
+                at: 5,
+            })
             .expect(rt, "memory");
     }
     expect(rt, store.is_long());
@@ -112,7 +118,7 @@ fn expect_changes<R: Abort + AllocGlobal + Files<File = File> + time::Clock>(
     let addr = lease.addr;
     expect_eq(rt, &kept(rt, folder), &1);
     store
-        .append(&Change::Released { name, addr })
+        .append(&Change::Released { name, addr, at: 5 })
         .expect(rt, "memory");
     store.sync().expect(rt, "sync");
     expect_eq(rt, &kept(rt, folder), &0);
@@ -229,19 +235,33 @@ enum Comes {
     Ends(&'static str, &'static str),
     /// It begins anew. Its first line ends so, and this text is set aside.
     Begins(&'static str, Option<&'static str>),
+    /// It goes on. Its first line has this text, and nothing is set aside.
+    GoesOn(&'static str),
 }
 
 const OTHER_VERSION: &str = "nbt leases, version 1\n1000 60\n";
 
-const NO_HEADER: &str = "nbt leases, version 2\n1000 60\n";
+const NO_HEADER: &str = "nbt leases, version 3\n1000 60\n";
 
 /// A file of a server with a longest lease of 300 s, of which the third line is none.
 const LONGER: &str =
-    "nbt leases, version 2\n1000 300 4096 dc20cc8a-d62e-419a-bf2b-a765f4dedd69 0 3070565 3070565 1795823748362 0 8d3c3b38\ngarbage\n";
+    "nbt leases, version 3\n1000 300 4096 dc20cc8a-d62e-419a-bf2b-a765f4dedd69 0 3070565 3070565 1795823748362 0 8d3c3b38\ngarbage\n";
 
 const CUT: &str = "nbt leases, versi";
 
-static BEGINS: [(There, Comes); 15] = [
+/// The file of another boot whose time of day was long ago, one whose time of day is yet to come and that has a lease, and one of the older
+/// form. The silence of their servers was over.
+const OLD: &str =
+    "nbt leases, version 3\n1000 60 16 another-boot 0 0 100000 1700000000000 0 84809ce7\n";
+
+const OF_LATER: &str = "nbt leases, version 3\n\
+1000 60 16 another-boot 0 0 100000 4000000000000 1 ec38cef8\n\
+began FRED 127.0.0.2:137 - unique 150000 100000 0fdd1e8b\n";
+
+const OLDER_FORM: &str =
+    "nbt leases, version 2\n1000 60 16 another-boot 0 0 100000 4000000000000 0 ec38cef7\n";
+
+static BEGINS: [(There, Comes); 18] = [
     (
         There::NoFolder,
         Comes::Ends(
@@ -328,6 +348,18 @@ static BEGINS: [(There, Comes); 15] = [
     (
         There::Leases(NO_HEADER),
         Comes::Begins("Z, since damaged at line 2\n", Some(NO_HEADER)),
+    ),
+    (
+        There::Leases(OLD),
+        Comes::Begins("Z, since the kept leases are over\n", None),
+    ),
+    (
+        There::Leases(OLDER_FORM),
+        Comes::Begins("Z, since kept by an older version\n", None),
+    ),
+    (
+        There::Leases(OF_LATER),
+        Comes::GoesOn(", with 1 lease kept, silent for 1 s until "),
     ),
 ];
 
@@ -432,6 +464,17 @@ fn expect_end<R: Abort + AllocGlobal>(
     expect_eq_in(rt, row, &came.2.as_slice(), &said.as_bytes());
 }
 
+/// This text is set aside.
+fn expect_aside_is<R: Abort + AllocGlobal + Files>(
+    rt: &R,
+    row: &(There, Comes),
+    folder: &str,
+    aside: Option<&str>,
+) {
+    let text = text_in(rt, folder, "leases.bad");
+    expect_eq_in(rt, row, &text.as_ref().map(|text| text.as_str()), &aside);
+}
+
 fn expect_row<R: Abort + AllocGlobal + Net + time::Clock + Files<File = File>>(
     rt: &R,
     row: &(There, Comes),
@@ -445,8 +488,14 @@ fn expect_row<R: Abort + AllocGlobal + Net + time::Clock + Files<File = File>>(
             expect_eq_in(rt, row, &came.0, &Ok(()));
             expect(rt, came.1.as_slice().ends_with(since.as_bytes()));
             expect_eq_in(rt, row, &came.2.len(), &0);
-            let text = text_in(rt, folder, "leases.bad");
-            expect_eq_in(rt, row, &text.as_ref().map(|text| text.as_str()), &aside);
+            expect_aside_is(rt, row, folder, aside);
+        }
+        Comes::GoesOn(has) => {
+            expect_eq_in(rt, row, &came.0, &Ok(()));
+            let line = str::from_utf8(came.1.as_slice()).ok();
+            expect(rt, line.is_some_and(|line| line.contains(has)));
+            expect_eq_in(rt, row, &came.2.len(), &0);
+            expect_aside_is(rt, row, folder, None);
         }
     }
 }

@@ -26,7 +26,7 @@ const DAY: u64 = 1_795_511_463_000;
 
 /// This machine with other lists of its addresses: one when it is read first, and another one from then on. Its monotonic clock shows so
 /// many milliseconds, and at each reading so many more, and a client sends, if there is one. It has memory for sockets or not. One file
-/// can't be opened, if its path is given.
+/// can't be opened, if its path is given; and another takes the place of one while it is opened, if that is given.
 #[derive(Drop)]
 pub(super) struct Machine<'a, N> {
     pub host: &'a N,
@@ -38,6 +38,15 @@ pub(super) struct Machine<'a, N> {
     pub client: Option<&'a Client>,
     pub has_memory: Cell<bool>,
     pub closed: Option<&'a str>,
+    pub swap: Option<Swap<'a>>,
+}
+
+/// While a file of this path is opened, the one of another path takes its place: before it is opened, or afterwards.
+#[derive(Clone, Copy, Debug)]
+pub(super) struct Swap<'a> {
+    pub path: &'a str,
+    pub by: &'a str,
+    pub before: bool,
 }
 
 /// A client that sends two packets to a server.
@@ -68,6 +77,7 @@ fn machine_of<'a, N>(host: &'a N, list: &'a str, since_boot: u64) -> Machine<'a,
         client: None,
         has_memory: Cell::new(true),
         closed: None,
+        swap: None,
     }
 }
 
@@ -83,6 +93,7 @@ pub(super) fn machine_beside<'a, N>(host: &'a N, client: &'a Client) -> Machine<
         client: Some(client),
         has_memory: Cell::new(true),
         closed: None,
+        swap: None,
     }
 }
 
@@ -90,6 +101,13 @@ pub(super) fn machine_beside<'a, N>(host: &'a N, client: &'a Client) -> Machine<
 pub(super) fn machine_refusing<'a, N>(host: &'a N, path: &'a str) -> Machine<'a, N> {
     let mut machine = machine_of(host, "", 0);
     machine.closed = Some(path);
+    machine
+}
+
+/// A machine on which one file takes the place of another.
+pub(super) fn machine_swapping<'a, N>(host: &'a N, swap: Swap<'a>) -> Machine<'a, N> {
+    let mut machine = machine_of(host, "", 0);
+    machine.swap = Some(swap);
     machine
 }
 
@@ -139,7 +157,10 @@ impl<'a, N: Files> Files for Machine<'a, N> {
             return Err(io::Error::from(io::ErrorKind::PermissionDenied));
         }
         if path != LIST {
-            return self.host.open_file(how, path);
+            self.swap_at(path, true)?;
+            let file = self.host.open_file(how, path)?;
+            self.swap_at(path, false)?;
+            return Ok(file);
         }
         let path = if self.is_read.get() {
             self.list
@@ -184,6 +205,18 @@ impl<'a, N: Files> Files for Machine<'a, N> {
 
     fn remove_dir_all<B: Allocator>(&self, alloc: B, path: &str) -> io::Result<()> {
         self.host.remove_dir_all(alloc, path)
+    }
+}
+
+impl<'a, N: Files> Machine<'a, N> {
+    /// Another file takes the place of the one of this path, if that is to be before it is opened, or afterwards.
+    fn swap_at(&self, path: &str, before: bool) -> io::Result<()> {
+        match self.swap {
+            Some(swap) if swap.path == path && swap.before == before => {
+                self.host.rename(swap.by, swap.path)
+            }
+            _ => Ok(()),
+        }
     }
 }
 

@@ -1,7 +1,7 @@
 //! A server that keeps its leases over a port and a disk in memory, turn by turn: the life of a datagram 1,000 ms, the longest lease
 //! 60 s, started at 0. Its store's file is opened by the disk's calls 0 to 2.
 
-use super::expect::{expect, expect_eq, expect_eq_in};
+use super::expect::{expect, expect_eq, expect_eq_in, expect_in};
 use super::stage::{Scene, play_on};
 use arrayvec::ArrayVec;
 use nbt_keep::{BATCH, KeepFault, Waiting, keep_on, keep_turn};
@@ -42,10 +42,12 @@ const NOTHING: Row = (FIRST, "");
 /// What came of a turn, how many datagrams were sent by its end, and how many calls the disk had.
 type Came = (Result<(), KeepFault>, usize, usize);
 
-/// What a server is given; after how many calls a call of its port fails, if one does; from which call on there is which trouble at
-/// the disk; what comes of each turn, and what is sent.
+/// Up to which time all is durable at first, which moments the clock tells, and what a server is given; after how many calls a call of its
+/// port fails, if one does; from which call on there is which trouble at the disk; what comes of each turn, and what is sent.
 struct Kept {
     name: &'static str,
+    durable: u64,
+    moments: &'static [u64],
     given: &'static [Row],
     port_fails: Option<u64>,
     trouble: Option<(usize, Trouble)>,
@@ -56,6 +58,8 @@ struct Kept {
 const TURNS: &[Kept] = &[
     Kept {
         name: "replies wait for one sync, whatever they are, and leave in order",
+        durable: 60_000,
+        moments: &[60_000],
         given: &[
             (FIRST, REGISTRATION),
             (SECOND, RIVAL),
@@ -82,6 +86,8 @@ const TURNS: &[Kept] = &[
     },
     Kept {
         name: "what changes nothing leaves at once, and needs no sync",
+        durable: 60_000,
+        moments: &[60_000],
         given: &[(SECOND, QUERY), (FIRST, RELEASE), NOTHING],
         port_fails: None,
         trouble: None,
@@ -90,6 +96,8 @@ const TURNS: &[Kept] = &[
     },
     Kept {
         name: "datagrams without replies hold up nothing",
+        durable: 60_000,
+        moments: &[60_000],
         given: &[
             (FIRST, REGISTRATION),
             (SECOND, RIVAL),
@@ -108,6 +116,8 @@ const TURNS: &[Kept] = &[
     },
     Kept {
         name: "nothing leaves where a change can't be appended",
+        durable: 60_000,
+        moments: &[60_000],
         given: &[(FIRST, REGISTRATION), NOTHING],
         port_fails: None,
         trouble: Some((3, Trouble::Refused)),
@@ -116,6 +126,8 @@ const TURNS: &[Kept] = &[
     },
     Kept {
         name: "nothing leaves where the second change can't be appended",
+        durable: 60_000,
+        moments: &[60_000],
         given: &[(FIRST, REGISTRATION), (FIRST, RELEASE), NOTHING],
         port_fails: None,
         trouble: Some((4, Trouble::Torn(5))),
@@ -124,6 +136,8 @@ const TURNS: &[Kept] = &[
     },
     Kept {
         name: "nothing leaves where changes can't be made durable",
+        durable: 60_000,
+        moments: &[60_000],
         given: &[(FIRST, REGISTRATION), (SECOND, QUERY), NOTHING],
         port_fails: None,
         trouble: Some((4, Trouble::Refused)),
@@ -136,6 +150,8 @@ const TURNS: &[Kept] = &[
     },
     Kept {
         name: "a reply whose send fails is lost, and those behind it leave in the next turn",
+        durable: 60_000,
+        moments: &[60_000],
         given: &[
             (FIRST, REGISTRATION),
             (SECOND, RIVAL),
@@ -156,6 +172,8 @@ const TURNS: &[Kept] = &[
     },
     Kept {
         name: "a reply that still waits leaves before the next one",
+        durable: 60_000,
+        moments: &[60_000],
         given: &[
             (FIRST, REGISTRATION),
             (SECOND, RIVAL),
@@ -174,11 +192,158 @@ const TURNS: &[Kept] = &[
     },
     Kept {
         name: "a receive that fails leaves what waits waiting",
+        durable: 60_000,
+        moments: &[60_000],
         given: &[(FIRST, REGISTRATION), NOTHING],
         port_fails: Some(1),
         trouble: None,
         turns: &[(Ok(()), 0, 4), (Err(KeepFault::Port), 0, 4), (Ok(()), 1, 5)],
         sent: &[(FIRST, GRANTED)],
+    },
+    Kept {
+        name: "a second past the last durable time a datagram is handled as it is",
+        durable: 59_000,
+        moments: &[60_000],
+        given: &[(SECOND, QUERY)],
+        port_fails: None,
+        trouble: None,
+        turns: &[(Ok(()), 1, 3)],
+        sent: &[(SECOND, NOT_FOUND)],
+    },
+    Kept {
+        name: "a millisecond later that time becomes durable first",
+        durable: 58_999,
+        // The clock is read again before a reply leaves that waited for a sync.
+        moments: &[60_000, 60_500, 61_000, 61_001],
+        given: &[(SECOND, QUERY), (SECOND, QUERY), (SECOND, QUERY)],
+        port_fails: None,
+        trouble: None,
+        turns: &[(Ok(()), 1, 5), (Ok(()), 2, 5), (Ok(()), 3, 7)],
+        sent: &[
+            (SECOND, NOT_FOUND),
+            (SECOND, NOT_FOUND),
+            (SECOND, NOT_FOUND),
+        ],
+    },
+    Kept {
+        name: "so does it before a datagram without a reply",
+        durable: 0,
+        moments: &[60_000, 60_000, 61_001],
+        given: &[(SECOND, "00"), (SECOND, "00")],
+        port_fails: None,
+        trouble: None,
+        turns: &[(Ok(()), 0, 5), (Ok(()), 0, 7)],
+        sent: &[],
+    },
+    Kept {
+        name: "where nothing comes, nothing becomes durable",
+        durable: 0,
+        moments: &[60_000],
+        given: &[NOTHING],
+        port_fails: None,
+        trouble: None,
+        turns: &[(Ok(()), 0, 3)],
+        sent: &[],
+    },
+    Kept {
+        name: "a change that waits becomes durable with a later time",
+        durable: 60_000,
+        moments: &[60_900, 61_001, 61_100],
+        given: &[(FIRST, REGISTRATION), (SECOND, QUERY)],
+        port_fails: None,
+        trouble: None,
+        turns: &[(Ok(()), 0, 4), (Ok(()), 2, 6)],
+        sent: &[(FIRST, GRANTED), (SECOND, FOUND)],
+    },
+    Kept {
+        name: "a time that is appended last is the durable one, and not that of the change before it",
+        durable: 60_000,
+        moments: &[60_000, 61_001, 61_001, 62_001],
+        given: &[(FIRST, REGISTRATION), (SECOND, "00"), (SECOND, "00")],
+        port_fails: None,
+        trouble: None,
+        turns: &[(Ok(()), 0, 4), (Ok(()), 0, 6), (Ok(()), 0, 6)],
+        sent: &[],
+    },
+    Kept {
+        name: "nothing leaves where a time can't be appended",
+        durable: 60_000,
+        moments: &[60_000, 61_001],
+        given: &[(FIRST, REGISTRATION), (SECOND, QUERY), NOTHING],
+        port_fails: None,
+        trouble: Some((4, Trouble::Torn(5))),
+        turns: &[(Ok(()), 0, 4), (Err(KeepFault::Store), 0, 5)],
+        sent: &[],
+    },
+    Kept {
+        name: "nothing leaves where a time can't be made durable",
+        durable: 60_000,
+        moments: &[60_000, 61_001],
+        given: &[(FIRST, REGISTRATION), (SECOND, QUERY), NOTHING],
+        port_fails: None,
+        trouble: Some((5, Trouble::Refused)),
+        turns: &[(Ok(()), 0, 4), (Err(KeepFault::Store), 0, 6)],
+        sent: &[],
+    },
+    Kept {
+        name: "a reply that waited leaves as long as a datagram lives",
+        durable: 60_000,
+        moments: &[60_000, 60_400, 61_000],
+        given: &[(FIRST, REGISTRATION), (SECOND, RIVAL), NOTHING],
+        port_fails: None,
+        trouble: None,
+        turns: &[(Ok(()), 0, 4), (Ok(()), 0, 4), (Ok(()), 2, 5)],
+        sent: &[(FIRST, GRANTED), (SECOND, REFUSED)],
+    },
+    Kept {
+        name: "a millisecond later it is dropped, and a younger one leaves",
+        durable: 60_000,
+        moments: &[60_000, 60_400, 61_001],
+        given: &[(FIRST, REGISTRATION), (SECOND, RIVAL), NOTHING, NOTHING],
+        port_fails: None,
+        trouble: None,
+        turns: &[
+            (Ok(()), 0, 4),
+            (Ok(()), 0, 4),
+            (Ok(()), 1, 5),
+            (Ok(()), 1, 5),
+        ],
+        sent: &[(SECOND, REFUSED)],
+    },
+    Kept {
+        name: "a reply that waits for nothing leaves without another look at the clock",
+        durable: 60_000,
+        moments: &[60_000, 70_000],
+        given: &[(SECOND, QUERY)],
+        port_fails: None,
+        trouble: None,
+        turns: &[(Ok(()), 1, 3)],
+        sent: &[(SECOND, NOT_FOUND)],
+    },
+    Kept {
+        name: "one whose time took a second to become durable is dropped",
+        durable: 0,
+        moments: &[60_000, 61_001],
+        given: &[(SECOND, QUERY), NOTHING],
+        port_fails: None,
+        trouble: None,
+        turns: &[(Ok(()), 0, 5), (Ok(()), 0, 5)],
+        sent: &[],
+    },
+    Kept {
+        name: "what still waits behind a failed send is dropped too once it is too old",
+        durable: 60_000,
+        moments: &[60_000, 60_500, 61_000, 61_501],
+        given: &[(FIRST, REGISTRATION), (SECOND, RIVAL), NOTHING, NOTHING],
+        port_fails: Some(3),
+        trouble: None,
+        turns: &[
+            (Ok(()), 0, 4),
+            (Ok(()), 0, 4),
+            (Err(KeepFault::Port), 0, 5),
+            (Ok(()), 0, 5),
+        ],
+        sent: &[],
     },
 ];
 
@@ -256,7 +421,7 @@ impl Scene for Kept {
             port.fail_after(calls);
         }
         let mut store = store(rt, self.trouble);
-        let mut waiting = Waiting::new(rt.alloc()).expect(rt, "waiting");
+        let mut waiting = Waiting::new(rt.alloc(), self.durable).expect(rt, "waiting");
         let mut stage = Stage {
             port,
             clock,
@@ -276,6 +441,8 @@ const TEAM_REFUSED: &str = "0001 ad82 reply TEAM NB 0s unique 127.0.0.2";
 /// A second name of a client that may have one: nothing is appended for it, and its refusal waits for what was before it.
 const A_SECOND_NAME: &Kept = &Kept {
     name: "the refusal of a client that is full is no change",
+    durable: 60_000,
+    moments: &[60_000],
     given: &[(FIRST, REGISTRATION), (FIRST, TEAM), NOTHING, (FIRST, TEAM)],
     port_fails: None,
     trouble: None,
@@ -310,14 +477,19 @@ impl Scene for OneNameEach {
 
 fn play_all<R: Abort + AllocGlobal + time::Clock>(rt: &R, rows: &[Kept]) {
     for row in rows {
-        play_on(rt, row.given, &[60_000], row);
+        play_on(rt, row.given, row.moments, row);
     }
 }
 
 #[test]
 fn replies_wait_until_their_changes_are_durable(rt: HostRuntime) {
     play_all(&rt, TURNS);
-    play_on(&rt, A_SECOND_NAME.given, &[60_000], &OneNameEach)
+    play_on(
+        &rt,
+        A_SECOND_NAME.given,
+        A_SECOND_NAME.moments,
+        &OneNameEach,
+    )
 }
 
 /// A port that hands out the registrations of names of these numbers; nothing where the number is `None`.
@@ -354,7 +526,7 @@ impl Scene for Full {
         }
         *port = port_of_many(rt, numbers.as_slice());
         let mut store = store(rt, None);
-        let mut waiting = Waiting::new(rt.alloc()).expect(rt, "waiting");
+        let mut waiting = Waiting::new(rt.alloc(), 60_000).expect(rt, "waiting");
         let mut stage = Stage {
             port,
             clock,
@@ -389,8 +561,12 @@ const BATCHES: &[Option<u16>] = &[
     None,
 ];
 
+/// What the clock tells, reading by reading. Before the first registration is handled and before the fifth, a time becomes durable: that is
+/// more than a second later than what is durable before.
+const PASSING: &[u64] = &[60_000, 60_300, 60_600, 60_900, 61_200, 61_500, 61_800];
+
 /// The server crashes at this call of the disk, which has this trouble from then on. Whatever is left, it resumes with it, and knows
-/// of each grant that has left.
+/// of each grant that has left; and it had handled nothing more than a second later than what is left goes.
 #[derive(Clone, Copy)]
 struct Crash {
     trouble: (usize, Trouble),
@@ -398,7 +574,7 @@ struct Crash {
 
 /// The server of these octets of a file finds the names of all grants among what was sent.
 fn expect_known<R: Abort + AllocGlobal>(rt: &R, octets: &[u8], sent: &[Datagram]) {
-    let now = Moment::new(61_000).expect(rt, "a moment");
+    let now = Moment::new(62_000).expect(rt, "a moment");
     let mut server = resumed(rt, octets, now);
     for datagram in sent {
         expect_found(rt, &mut server, now, datagram.octets.as_slice());
@@ -412,7 +588,7 @@ fn resumed<R: Abort + AllocGlobal>(rt: &R, octets: &[u8], now: Moment) -> Server
         rt.alloc(),
         config(4096).expect(rt, "limits"),
         Moment::new(loaded.header.start).expect(rt, "a moment"),
-        Moment::new(loaded.header.last).expect(rt, "a moment"),
+        Moment::new(loaded.times.last).expect(rt, "a moment"),
         now,
         loaded.rows.as_slice(),
     )
@@ -438,14 +614,27 @@ fn expect_found<R: Abort + AllocGlobal>(rt: &R, server: &mut Server, now: Moment
     expect(rt, matches!(out.as_slice(), [_, _, 0x85, 0x80, ..]));
 }
 
-/// All that a crash may leave knows of what was sent.
-fn expect_all_known<R: Abort + AllocGlobal>(rt: &R, disk: &MemoryDisk, sent: &[Datagram]) {
+/// What these octets of a file keep goes no less far than a second before this moment.
+fn expect_near<R: Abort + AllocGlobal>(rt: &R, octets: &[u8], last: Moment) {
+    let loaded = load(rt.alloc(), octets).expect(rt, "load");
+    let late = last.get().saturating_sub(loaded.times.last);
+    expect_in(rt, &late, late <= 1_000);
+}
+
+/// All that a crash may leave knows of what was sent, and goes as far as the server, but for a second.
+fn expect_all_known<R: Abort + AllocGlobal>(
+    rt: &R,
+    disk: &MemoryDisk,
+    sent: &[Datagram],
+    last: Moment,
+) {
     let mut number = 0;
     for _ in 0..10_000 {
         let Some(octets) = disk.left(number) else {
             return;
         };
         expect_known(rt, octets, sent);
+        expect_near(rt, octets, last);
         number = number.saturating_add(1);
     }
     panic!(rt; "too much is left")
@@ -456,7 +645,12 @@ fn go_until_it_crashes<R: Abort + AllocGlobal>(rt: &R, stage: &mut Stage) {
     let mut octets = ArrayVec::new();
     for _ in BATCHES {
         let came = turn(rt, stage, &mut octets);
-        expect_all_known(rt, stage.store.disk(), stage.port.sent());
+        expect_all_known(
+            rt,
+            stage.store.disk(),
+            stage.port.sent(),
+            stage.server.last(),
+        );
         if came.is_err() {
             return;
         }
@@ -474,7 +668,7 @@ impl Scene for Crash {
     ) {
         *port = port_of_many(rt, BATCHES);
         let mut store = store(rt, Some(self.trouble));
-        let mut waiting = Waiting::new(rt.alloc()).expect(rt, "waiting");
+        let mut waiting = Waiting::new(rt.alloc(), 0).expect(rt, "waiting");
         let mut stage = Stage {
             port,
             clock,
@@ -486,8 +680,8 @@ impl Scene for Crash {
     }
 }
 
-/// The calls of both batches: 3 to open the file, 5 changes and 2 syncs; and one behind them.
-const CALLS: usize = 11;
+/// The calls of both batches: 3 to open the file, 5 changes and 2 syncs, and 2 for each of two times; and one behind them.
+const CALLS: usize = 15;
 
 fn crash_at_each<R: Abort + AllocGlobal + time::Clock>(rt: &R, troubles: &[Trouble]) {
     for call in 3..CALLS {
@@ -495,7 +689,7 @@ fn crash_at_each<R: Abort + AllocGlobal + time::Clock>(rt: &R, troubles: &[Troub
             let row = Crash {
                 trouble: (call, *trouble),
             };
-            play_on(rt, &[], &[60_000], &row);
+            play_on(rt, &[], PASSING, &row);
         }
     }
 }
@@ -513,15 +707,21 @@ fn what_left_before_a_crash_is_known_after_it(rt: HostRuntime) {
     )
 }
 
-/// A server that stays up: at which times of day its file is looked after, which trouble the disk has, what comes of it, how many calls
-/// the disk has then, and what is said of errors.
+/// A server that stays up: what it is given, which moments its clock tells, and until when it goes on; up to which time all is durable at
+/// first, and which pair of a moment and a time of day the header has; the times of day at which its file is looked after; which trouble
+/// the disk has, and what comes of it: how many calls the disk has then, which pair the header has, and what is said of errors.
 struct Stays {
+    name: &'static str,
+    given: &'static [Row],
+    moments: &'static [u64],
+    until: u64,
+    durable: u64,
+    pair: (u64, u64),
     days: &'static [u64],
     trouble: Option<(usize, Trouble)>,
     came: Result<(), Fault>,
     calls: usize,
-    last: u64,
-    day: u64,
+    then: (u64, u64),
     errors: &'static str,
 }
 
@@ -587,8 +787,9 @@ impl Scene for Stays {
         server: &mut Server,
     ) {
         let mut store = store(rt, self.trouble);
-        let mut waiting = Waiting::new(rt.alloc()).expect(rt, "waiting");
+        let mut waiting = Waiting::new(rt.alloc(), self.durable).expect(rt, "waiting");
         let mut header = header(rt);
+        (header.last, header.day) = self.pair;
         let mut day = clock(rt, self.days).expect(rt, "a clock");
         let mut stage = Stage {
             port,
@@ -597,77 +798,265 @@ impl Scene for Stays {
             store: &mut store,
             waiting: &mut waiting,
         };
-        let (came, errors) = stay(rt, &mut stage, &mut day, &mut header, 60_003);
-        expect_eq_in(rt, &self.days, &came, &self.came);
-        expect_eq_in(rt, &self.days, &stage.store.disk().calls(), &self.calls);
-        expect_eq_in(
-            rt,
-            &self.days,
-            &(header.last, header.day),
-            &(self.last, self.day),
-        );
-        expect_eq(rt, &errors.as_slice(), &self.errors.as_bytes());
+        let (came, errors) = stay(rt, &mut stage, &mut day, &mut header, self.until);
+        expect_eq_in(rt, &self.name, &came, &self.came);
+        expect_eq_in(rt, &self.name, &stage.store.disk().calls(), &self.calls);
+        expect_eq_in(rt, &self.name, &(header.last, header.day), &self.then);
+        expect_eq_in(rt, &self.name, &errors.as_slice(), &self.errors.as_bytes());
     }
 }
 
 /// What is said where a disk in memory refuses a write.
 const REFUSED_LINE: &str = "nbt: the leases can't be kept: no storage space\n";
 
-/// A grant, and two turns in which nothing comes: the file is looked after in both.
-const GRANT: &[Row] = &[(FIRST, REGISTRATION), NOTHING, NOTHING];
+const NOT_SYNCED_LINE: &str = "nbt: the leases can't be kept: other error\n";
 
+/// The clock is read for a datagram, before replies leave that waited, and at the end of each turn.
 const STAYS: &[Stays] = &[
     Stays {
-        days: &[62_002, 58_003],
+        name: "both clocks went on by the same",
+        given: &[(FIRST, REGISTRATION), NOTHING],
+        moments: &[60_000, 60_001, 60_002, 60_003],
+        until: 60_003,
+        durable: 60_000,
+        pair: (60_000, 1_000_000),
+        days: &[1_000_003],
         trouble: None,
         came: Ok(()),
         calls: 5,
-        last: 0,
-        day: 0,
+        then: (60_000, 1_000_000),
         errors: "",
     },
     Stays {
-        days: &[60_002, 62_004],
+        name: "the day went on by 200 ms and a thousandth more",
+        given: &[(FIRST, REGISTRATION), NOTHING],
+        moments: &[60_000, 60_001, 60_002, 60_003],
+        until: 60_003,
+        durable: 60_000,
+        pair: (50_000, 1_000_000),
+        days: &[1_010_213],
         trouble: None,
         came: Ok(()),
-        calls: 8,
-        last: 60_003,
-        day: 62_004,
+        calls: 5,
+        then: (50_000, 1_000_000),
         errors: "",
     },
     Stays {
-        days: &[58_001, 58_002],
+        name: "by a millisecond more than that: a line says so",
+        given: &[(FIRST, REGISTRATION), NOTHING],
+        moments: &[60_000, 60_001, 60_002, 60_003],
+        until: 60_003,
+        durable: 60_000,
+        pair: (50_000, 1_000_000),
+        days: &[1_010_214],
         trouble: None,
         came: Ok(()),
-        calls: 8,
-        last: 60_002,
-        day: 58_001,
+        calls: 7,
+        then: (60_003, 1_010_214),
         errors: "",
     },
     Stays {
+        name: "the day went on by 200 ms and a thousandth less",
+        given: &[(FIRST, REGISTRATION), NOTHING],
+        moments: &[60_000, 60_001, 60_002, 60_003],
+        until: 60_003,
+        durable: 60_000,
+        pair: (50_000, 1_000_000),
+        days: &[1_009_793],
+        trouble: None,
+        came: Ok(()),
+        calls: 5,
+        then: (50_000, 1_000_000),
+        errors: "",
+    },
+    Stays {
+        name: "by a millisecond less than that",
+        given: &[(FIRST, REGISTRATION), NOTHING],
+        moments: &[60_000, 60_001, 60_002, 60_003],
+        until: 60_003,
+        durable: 60_000,
+        pair: (50_000, 1_000_000),
+        days: &[1_009_792],
+        trouble: None,
+        came: Ok(()),
+        calls: 7,
+        then: (60_003, 1_009_792),
+        errors: "",
+    },
+    Stays {
+        name: "the day went back by an hour",
+        given: &[(FIRST, REGISTRATION), NOTHING],
+        moments: &[60_000, 60_001, 60_002, 60_003],
+        until: 60_003,
+        durable: 60_000,
+        pair: (60_000, 4_000_000),
+        days: &[400_000],
+        trouble: None,
+        came: Ok(()),
+        calls: 7,
+        then: (60_003, 400_000),
+        errors: "",
+    },
+    Stays {
+        name: "a line says so once",
+        given: &[(FIRST, REGISTRATION), NOTHING, NOTHING],
+        moments: &[60_000, 60_001, 60_002, 60_003, 60_004],
+        until: 60_004,
+        durable: 60_000,
+        pair: (60_000, 1_000_000),
+        days: &[4_600_000, 4_600_001],
+        trouble: None,
+        came: Ok(()),
+        calls: 7,
+        then: (60_003, 4_600_000),
+        errors: "",
+    },
+    Stays {
+        name: "and once more where it is set again",
+        given: &[(FIRST, REGISTRATION), NOTHING, NOTHING],
+        moments: &[60_000, 60_001, 60_002, 60_003, 60_004],
+        until: 60_004,
+        durable: 60_000,
+        pair: (60_000, 1_000_000),
+        days: &[4_600_000, 1_000_001],
+        trouble: None,
+        came: Ok(()),
+        calls: 9,
+        then: (60_004, 1_000_001),
+        errors: "",
+    },
+    Stays {
+        name: "while a reply waits nothing is looked at",
+        given: &[(FIRST, REGISTRATION), NOTHING],
+        moments: &[60_000, 60_001, 60_002, 60_003],
+        until: 60_003,
+        durable: 60_000,
+        pair: (60_000, 1_000_000),
+        days: &[1_000_003, 4_600_000],
+        trouble: None,
+        came: Ok(()),
+        calls: 5,
+        then: (60_000, 1_000_000),
+        errors: "",
+    },
+    Stays {
+        name: "a quarter of the longest lease passed since the last durable time",
+        given: &[NOTHING],
+        moments: &[60_000],
+        until: 60_000,
+        durable: 45_000,
+        pair: (45_000, 1_000_000),
+        days: &[1_015_000],
+        trouble: None,
+        came: Ok(()),
+        calls: 5,
+        then: (60_000, 1_015_000),
+        errors: "",
+    },
+    Stays {
+        name: "a millisecond less",
+        given: &[NOTHING],
+        moments: &[60_000],
+        until: 60_000,
+        durable: 45_001,
+        pair: (45_001, 1_000_000),
+        days: &[1_014_999],
+        trouble: None,
+        came: Ok(()),
+        calls: 3,
+        then: (45_001, 1_000_000),
+        errors: "",
+    },
+    Stays {
+        name: "since the last durable time, and not since the last pair",
+        given: &[NOTHING],
+        moments: &[60_000],
+        until: 60_000,
+        durable: 45_001,
+        pair: (30_000, 1_000_000),
+        days: &[1_030_000],
+        trouble: None,
+        came: Ok(()),
+        calls: 3,
+        then: (30_000, 1_000_000),
+        errors: "",
+    },
+    Stays {
+        name: "a line each quarter, and no more",
+        given: &[NOTHING, NOTHING, NOTHING, NOTHING],
+        moments: &[60_000, 74_999, 75_000, 75_001],
+        until: 75_001,
+        durable: 45_000,
+        pair: (45_000, 1_000_000),
+        days: &[1_015_000, 1_029_999, 1_030_000, 1_030_001],
+        trouble: None,
+        came: Ok(()),
+        calls: 7,
+        then: (75_000, 1_030_000),
+        errors: "",
+    },
+    Stays {
+        name: "a moment before the last durable time isn't looked at",
+        given: &[NOTHING],
+        moments: &[60_000],
+        until: 60_000,
+        durable: 60_001,
+        pair: (60_000, 1_000_000),
+        days: &[4_600_000],
+        trouble: None,
+        came: Ok(()),
+        calls: 3,
+        then: (60_000, 1_000_000),
+        errors: "",
+    },
+    Stays {
+        name: "a grant that can't be appended",
+        given: &[(FIRST, REGISTRATION), NOTHING],
+        moments: &[60_000, 60_001, 60_002, 60_003],
+        until: 60_003,
+        durable: 60_000,
+        pair: (60_000, 1_000_000),
         days: &[0],
         trouble: Some((3, Trouble::Refused)),
         came: Err(Fault::Store),
         calls: 4,
-        last: 0,
-        day: 0,
+        then: (60_000, 1_000_000),
         errors: REFUSED_LINE,
     },
     Stays {
+        name: "a line that can't be appended",
+        given: &[(FIRST, REGISTRATION), NOTHING],
+        moments: &[60_000, 60_001, 60_002, 60_003],
+        until: 60_003,
+        durable: 60_000,
+        pair: (60_000, 1_000_000),
         days: &[0],
         trouble: Some((5, Trouble::Refused)),
         came: Err(Fault::Store),
         calls: 6,
-        last: 60_002,
-        day: 0,
+        then: (60_003, 0),
         errors: REFUSED_LINE,
+    },
+    Stays {
+        name: "a line that can't be made durable",
+        given: &[(FIRST, REGISTRATION), NOTHING],
+        moments: &[60_000, 60_001, 60_002, 60_003],
+        until: 60_003,
+        durable: 60_000,
+        pair: (60_000, 1_000_000),
+        days: &[0],
+        trouble: Some((6, Trouble::Refused)),
+        came: Err(Fault::Store),
+        calls: 7,
+        then: (60_003, 0),
+        errors: NOT_SYNCED_LINE,
     },
 ];
 
 #[test]
-fn the_file_is_written_anew_where_the_time_of_day_was_set(rt: HostRuntime) {
+fn a_line_says_what_the_clocks_show(rt: HostRuntime) {
     for row in STAYS {
-        play_on(&rt, GRANT, &[60_000, 60_001, 60_002, 60_003], row);
+        play_on(&rt, row.given, row.moments, row);
     }
 }
 
@@ -711,7 +1100,7 @@ impl Scene for Long {
         *port = port_of_one(rt);
         *clock_of = clock_of_many(rt);
         let mut store = store(rt, None);
-        let mut waiting = Waiting::new(rt.alloc()).expect(rt, "waiting");
+        let mut waiting = Waiting::new(rt.alloc(), 60_000).expect(rt, "waiting");
         let mut header = header(rt);
         let mut day = clock(rt, &[60_000]).expect(rt, "a clock");
         let mut stage = Stage {

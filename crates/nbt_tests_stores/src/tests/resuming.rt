@@ -296,7 +296,8 @@ enum Changed {
 /// When a datagram comes, from which address, its octets, and what it changes; `None` where the server refuses it.
 type Changing = (u64, u32, &'static str, Option<Changed>);
 
-/// Each lasts for 60 s. Only what was granted, renewed or released is a change, also a renewal that moves no expiry.
+/// Each lasts for 60 s. Only what was granted, renewed or released is a change, also a renewal that moves no expiry; it was made when the
+/// datagram came.
 const CHANGES: [Changing; 11] = [
     (59_999, FIRST, REGISTRATION, Some(Changed::Nothing)),
     (
@@ -316,15 +317,21 @@ const CHANGES: [Changing; 11] = [
     (62_000, SECOND, RIVAL, Some(Changed::Began(SECOND, 122_000))),
 ];
 
-/// What changed in FRED's lease; `None` if it is another name's.
+/// What changed in FRED's lease; `None` if it is another name's, or no lease changed.
 fn changed_of(change: &Option<Change>, fred: &Name) -> Option<Changed> {
     let Some(change) = change else {
         return Some(Changed::Nothing);
     };
     let (name, changed) = match change {
-        Change::Began { name, lease } => (name, Changed::Began(lease.addr, lease.end)),
-        Change::Moved { name, addr, end } => (name, Changed::Moved(*addr, *end)),
-        Change::Released { name, addr } => (name, Changed::Released(*addr)),
+        Change::Began { name, lease, .. } => (name, Changed::Began(lease.addr, lease.end)),
+        Change::Moved {
+            name,
+            addr,
+            end,
+            ..
+        } => (name, Changed::Moved(*addr, *end)),
+        Change::Released { name, addr, .. } => (name, Changed::Released(*addr)),
+        Change::Reached { .. } | Change::Looked { .. } => return None,
     };
     if name == fred { Some(changed) } else { None }
 }
@@ -341,11 +348,10 @@ fn expect_change<R: Abort + AllocGlobal>(rt: &R, server: &mut Server, row: &Chan
         &mut out,
     ) {
         Ok(outcome) => {
-            let changed = changed_of(
-                &change_of(server, &outcome),
-                &Name::new(FRED, b"").expect(rt, "a name"),
-            );
+            let change = change_of(server, &outcome);
+            let changed = changed_of(&change, &Name::new(FRED, b"").expect(rt, "a name"));
             expect_eq_in(rt, row, &changed, &wanted);
+            expect_in(rt, row, change.is_none_or(|change| change.at() == now));
         }
         Err(fault) => {
             expect_eq_in(rt, row, &fault, &ServerFault::ClockBack);

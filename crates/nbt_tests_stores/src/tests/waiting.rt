@@ -102,7 +102,7 @@ fn no_datagram_is_waited_for_while_a_reply_waits(rt: HostRuntime) {
     let mut clock = clock(&rt, &[60_000]).expect(&rt, "a clock");
     let mut server = started(&rt, 4096, 0).expect(&rt, "a server");
     let mut store = store(&rt, None);
-    let mut waiting = Waiting::new(rt.alloc()).expect(&rt, "waiting");
+    let mut waiting = Waiting::new(rt.alloc(), 60_000).expect(&rt, "waiting");
     take_turns(
         &rt,
         &mut port,
