@@ -1,6 +1,6 @@
 -- What a crash leaves, call by call, of a server that keeps its leases.
-use Rattle.std.proofs.Common.{◌≡◌, ℕ, ◌+◌, ◌≤◌, ◌<◌, Bool, true, false, not, ◌&&◌, List, [], ◌∷◌, ◌++◌, length, take, map, Option, Some, None, refl, sym, ap, ◌∙◌, subst, ⊎_elim, arith}
-use Rattle.std.specs.Prelude.{max, nat_le, nat_lt, filter}
+use Rattle.std.proofs.Common.{◌≡◌, ℕ, ◌+◌, ◌≤◌, ◌<◌, not, List, [], ◌∷◌, ◌++◌, length, take, map, Option, Some, None, refl, sym, ap, ◌∙◌, subst, ⊎_elim, arith}
+use Rattle.std.specs.Prelude.{nat_le, nat_lt, filter}
 use Rattle.std.specs.List.{flat_map}
 use Rattle.std.proofs.Math.Nat.{le-max_left, le-max_right, max-le}
 use Rattle.std.proofs.lemmas.Bool.{cases_lt, ltb-false}
@@ -15,14 +15,14 @@ use Rattle.nbt_server.specs.Serving.{ServerValue}
 use Rattle.nbt_store.specs.declared.change.Change.{Change}
 use Rattle.nbt_store.specs.declared.change.Change.TheVariants.{Reached}
 use Rattle.nbt_store.specs.Calls.{StoreCall, appended, append_failed, synced, sync_failed, renewed, renew_failed, Kept, after_call}
-use Rattle.nbt_store.specs.Changes.{after, after_all, at_of, last_of, no_leases}
+use Rattle.nbt_store.specs.Changes.{after, after_all, last_of, no_leases}
 use Rattle.nbt_serve.specs.Serving.{Turn, is_empty, is_taken, is_lost, moments_in, Turns, passes, takes, goes_back, has_no_memory}
 use Rattle.nbt_keep.specs.Changing.{IsKept}
 use Rattle.nbt_keep.specs.Devices.{DeviceCall, on_port, on_store}
 use Rattle.nbt_keep.specs.Waiting.{ReplyValue, WaitingValue, with_line, durable_then, all_durable, dropped, lay_down, laid_down, LineFails, not_appended, not_synced, syncs_of, sends_of, timely, leaving}
 use Rattle.nbt_keep.specs.Turning.{Took, Takes, reply_in, receive_in, reach, reached, with_lines, before_it, with_any, with_reply, appends_of, behind, taking}
 use Rattle.nbt_keep.specs.Runs.{IsEarlier, LeavesOut, replies_in}
-use Rattle.nbt_keep.proofs.Left.{out_behind, out_front, out_filtered, out_mapped, out_before, out_twice, last_from, last_on, last_at}
+use Rattle.nbt_keep.proofs.Left.{out_behind, out_front, out_filtered, out_mapped, out_before, out_twice, last_on, last_at}
 
 -- ---- one call
 
@@ -200,9 +200,9 @@ module _ (first : ServerValue) where
   more_replies turn turns replies gone are =
       let here = reply_in turn in
       let all : replies_in (turns ++ turn ∷ []) ≡ replies_in turns ++ datagrams here =
-          ap datagrams (flat_map-append reply_in turns (turn ∷ []) ∙ ap (λ (rs : List ReplyValue). flat_map reply_in turns ++ rs) (append-nil here)) ∙ map-append (λ (r : ReplyValue). r.datagram) (flat_map reply_in turns) here in
+      ap datagrams (flat_map-append reply_in turns (turn ∷ []) ∙ ap (λ (rs : List ReplyValue). flat_map reply_in turns ++ rs) (append-nil here)) ∙ map-append (λ (r : ReplyValue). r.datagram) (flat_map reply_in turns) here in
       let waiting : gone ++ datagrams (replies ++ here) ≡ (gone ++ datagrams replies) ++ datagrams here =
-          ap (λ (ds : List DatagramValue). gone ++ ds) (map-append (λ (r : ReplyValue). r.datagram) replies here) ∙ sym (append_assoc gone (datagrams replies) (datagrams here)) in
+      ap (λ (ds : List DatagramValue). gone ++ ds) (map-append (λ (r : ReplyValue). r.datagram) replies here) ∙ sym (append_assoc gone (datagrams replies) (datagrams here)) in
       subst (LeavesOut (gone ++ datagrams (replies ++ here))) (sym all)
       (subst (λ (ds : List DatagramValue). LeavesOut ds (replies_in turns ++ datagrams here)) (sym waiting) (out_behind (gone ++ datagrams replies) (replies_in turns) (datagrams here) are))
 

@@ -5,9 +5,7 @@ use Rattle.std.proofs.lemmas.List.{append_assoc, map-append}
 use Rattle.nbt_lease.proofs.Common.{cases_Bool}
 use Rattle.nbt_port.specs.PortCalls.{PortCall, sent, send_failed, Chain}
 use Rattle.nbt_port.proofs.Chains.{chain-append}
-use Rattle.nbt_store.specs.Calls.{StoreCall, append_failed, appended, appending, synced, syncing, sync_failed}
-use Rattle.nbt_store.specs.declared.change.Change.{Change}
-use Rattle.nbt_store.specs.declared.store.Broken.{Broken}
+use Rattle.nbt_store.specs.Calls.{StoreCall, sync_failed}
 use Rattle.nbt_keep.specs.Devices.{DeviceCall, on_port, on_store, DeviceDoes}
 use Rattle.nbt_keep.specs.Waiting.{ReplyValue, WaitingValue, all_durable, dropped, syncs_of, sends_of, timely, leaving, value_of}
 use Rattle.nbt_keep.specs.Turning.{LeavingFails, sync_fails, send_fails}

@@ -1,8 +1,7 @@
 -- What was left out of a list, and the last time of changes.
-use Rattle.std.proofs.Common.{◌≡◌, ℕ, ◌≤◌, length, Bool, true, false, List, [], ◌∷◌, ◌++◌, map, refl, sym, ap, subst, ◌∙◌, ⊎_elim, arith}
+use Rattle.std.proofs.Common.{◌≡◌, ℕ, ◌≤◌, length, Bool, List, [], ◌∷◌, ◌++◌, map, refl, subst, ⊎_elim, arith}
 use Rattle.std.specs.Prelude.{max, filter}
 use Rattle.std.proofs.Math.Nat.{le-max_left, le-max_right}
-use Rattle.std.proofs.lemmas.List.{append_assoc}
 use Rattle.nbt_lease.proofs.Common.{cases_Bool}
 use Rattle.nbt_store.specs.declared.change.Change.{Change}
 use Rattle.nbt_store.specs.Changes.{at_of, last_of}

@@ -1,5 +1,5 @@
 -- What came of a look at the file, by what its parts returned.
-use Rattle.std.proofs.Common.{◌≡◌, ℕ, ◌≤◌, List, [], sym, ap, subst, ◌∙◌, Result, Ok, Err, arith}
+use Rattle.std.proofs.Common.{◌≡◌, ℕ, ◌≤◌, List, sym, ap, subst, ◌∙◌, Result, Ok, Err, arith}
 use Rattle.std.specs.Prelude.{MatchResult, OnOk, OnErr, max, true, None}
 use Rattle.nbt_lease.specs.Lease.{Rows}
 use Rattle.nbt_port.specs.PortCalls.{Chain}

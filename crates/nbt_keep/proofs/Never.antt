@@ -1,10 +1,10 @@
 -- A reply that waits for nothing.
-use Rattle.std.proofs.Common.{◌≡◌, Bool, true, false, List, [], ◌∷◌, ◌++◌, map, refl, sym, ap, subst, ◌∙◌, Option, Some, None}
+use Rattle.std.proofs.Common.{◌≡◌, Bool, false, List, [], ◌∷◌, ◌++◌, refl, sym, ap, subst, ◌∙◌, Option, Some, None}
 use Rattle.std.specs.List.{flat_map}
 use Rattle.nbt_store.specs.declared.change.Change.{Change}
 use Rattle.nbt_store.specs.Calls.{StoreCall}
 use Rattle.nbt_serve.specs.Serving.{Turn, moments_in}
-use Rattle.nbt_keep.specs.Waiting.{ReplyValue, WaitingValue, none_waits, IsClear, lay_down, laid_down}
+use Rattle.nbt_keep.specs.Waiting.{ReplyValue, WaitingValue, IsClear, lay_down, laid_down}
 use Rattle.nbt_keep.specs.Turning.{Took, NeverWaits, with_reply, with_lines, with_any, before_it, reached, reply_in, appends_of}
 use Rattle.nbt_keep.specs.Inner.Passing.{is_any, GoesAtOnce}
 

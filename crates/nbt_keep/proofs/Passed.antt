@@ -1,23 +1,20 @@
 -- One turn, by what its parts returned.
-use Rattle.std.proofs.Common.{◌≡◌, ℕ, ◌+◌, Bool, true, false, not, ◌||◌, List, [], ◌∷◌, ◌++◌, length, map, refl, sym, ap, subst, ◌∙◌, Option, None, Some, Result, Ok, Err, ◌<◌, ◌≤◌, arith}
-use Rattle.std.specs.Prelude.{is_some, nat_le, OnOk, OnErr, IfErr, IfSome}
+use Rattle.std.proofs.Common.{◌≡◌, ℕ, ◌+◌, Bool, true, false, not, ◌||◌, List, [], ◌∷◌, ◌++◌, length, map, refl, sym, ap, subst, Option, None, Some, Result, Ok, Err, ◌<◌, ◌≤◌, arith}
+use Rattle.std.specs.Prelude.{is_some, nat_le, OnOk, OnErr, IfErr}
 use Rattle.std.specs.List.{flat_map}
 use Rattle.std.proofs.lemmas.Bool.{leb-false}
-use Rattle.std.proofs.lemmas.List.{append-nil, length-append, map-append}
+use Rattle.std.proofs.lemmas.List.{append-nil, length-append}
 use Rattle.nbt_name.specs.declared.addr.Addr.{Addr}
-use Rattle.nbt_log.specs.declared.entry.Entry.{Entry}
 use Rattle.nbt_port.specs.PortCalls.{PortCall, came, receive_failed, send_failed, Chain}
-use Rattle.nbt_port.proofs.Chains.{chain-append}
 use Rattle.nbt_server.specs.Serving.{ServerValue}
 use Rattle.nbt_store.specs.declared.change.Change.{Change}
-use Rattle.nbt_store.specs.declared.change.Change.TheVariants.{Reached}
 use Rattle.nbt_store.specs.declared.store.Broken.{Broken}
 use Rattle.nbt_store.specs.Calls.{StoreCall, appending, append_failed}
-use Rattle.nbt_serve.specs.Serving.{Turn, moments_in}
+use Rattle.nbt_serve.specs.Serving.{moments_in}
 use Rattle.nbt_keep.specs.Devices.{DeviceCall, on_port, on_store, DeviceDoes}
-use Rattle.nbt_keep.specs.Waiting.{ReplyValue, WaitingValue, batch, IsClear, with_line, all_durable, dropped, lay_down, LineFails, sends_of, timely}
-use Rattle.nbt_keep.specs.Turning.{Took, NeverWaits, before_it, with_any, with_reply, behind, reply_in, receive_in, reached, is_unanswered, appends_of, stores, taking, Passes, waits, at_once, all_leave, LeavingFails, sync_fails, send_fails, Fails, reaching_fails, leaving_fails, sending_fails, append_fails, BreaksKeeping}
-use Rattle.nbt_keep.specs.Inner.Passing.{is_any, is_due, Leaves, still_wait, now_leave, GoesAtOnce, PassesOn, goes, leaves, PassingFails, not_sent, not_left, reply_to}
+use Rattle.nbt_keep.specs.Waiting.{ReplyValue, WaitingValue, batch, with_line, dropped, lay_down, sends_of}
+use Rattle.nbt_keep.specs.Turning.{Took, NeverWaits, before_it, with_any, with_reply, behind, reply_in, receive_in, reached, is_unanswered, appends_of, taking, Passes, waits, at_once, all_leave, LeavingFails, sync_fails, send_fails, Fails, reaching_fails, leaving_fails, sending_fails, append_fails, BreaksKeeping}
+use Rattle.nbt_keep.specs.Inner.Passing.{is_any, Leaves, still_wait, now_leave, GoesAtOnce, PassesOn, goes, leaves, PassingFails, not_sent, not_left, reply_to}
 use Rattle.nbt_keep.specs.Inner.Taking.{FailsToTake, in_reaching, in_appending}
 use Rattle.nbt_keep.specs.declared.fault.KeepFault.{KeepFault}
 use Rattle.nbt_keep.specs.declared.fault.KeepFault.TheVariants as fault

@@ -1,8 +1,7 @@
 -- Steps and runs of a server that keeps its leases, with what a crash leaves at each call.
-use Rattle.std.proofs.Common.{◌≡◌, ℕ, ◌+◌, ◌≤◌, List, [], ◌∷◌, ◌++◌, length, map, Option, Some, None, refl, sym, ap, ◌∙◌, subst, arith}
+use Rattle.std.proofs.Common.{◌≡◌, ℕ, ◌≤◌, List, [], ◌∷◌, ◌++◌, length, map, Option, None, refl, sym, ap, ◌∙◌, subst, arith}
 use Rattle.std.specs.Prelude.{max}
 use Rattle.std.specs.List.{flat_map}
-use Rattle.std.proofs.Math.Nat.{max-eq_left}
 use Rattle.std.proofs.lemmas.List.{append_assoc, append-nil, map-append}
 use Rattle.nbt_name.specs.declared.addr.Addr.{Addr}
 use Rattle.nbt_port.specs.Memory.{DatagramValue}
@@ -11,17 +10,17 @@ use Rattle.nbt_server.specs.Serving.{ServerValue}
 use Rattle.nbt_store.specs.declared.change.Change.{Change}
 use Rattle.nbt_store.specs.declared.change.Change.TheVariants.{Reached, Looked}
 use Rattle.nbt_store.specs.declared.header.Header.{Header}
-use Rattle.nbt_store.specs.Calls.{StoreCall, appended, append_failed, synced, sync_failed, renewed, renew_failed, Kept, kept_rows, after_call, after_calls, MayLeaveAfter, first_changes, new_leases}
+use Rattle.nbt_store.specs.Calls.{StoreCall, appended, append_failed, synced, sync_failed, renewed, renew_failed, kept_rows, after_call, after_calls, MayLeaveAfter, first_changes, new_leases}
 use Rattle.nbt_store.specs.Changes.{after_all, begun_all, no_leases}
 use Rattle.nbt_serve.specs.Serving.{Turn, moments_in}
 use Rattle.nbt_keep.specs.Devices.{DeviceCall, on_port, on_store}
-use Rattle.nbt_keep.specs.Waiting.{ReplyValue, WaitingValue, none_waits, IsClear, dropped, lay_down, laid_down, LineFails, sends_of}
-use Rattle.nbt_keep.specs.Turning.{Took, Takes, TakesAny, with_reply, before_it, reached, reply_in, taking, receive_in, reach, Passes, waits, at_once, all_leave, sync_fails, send_fails, Fails, receive_fails, reaching_fails, append_fails, leaving_fails, sending_fails}
+use Rattle.nbt_keep.specs.Waiting.{ReplyValue, WaitingValue, none_waits, IsClear, lay_down, laid_down, LineFails, sends_of}
+use Rattle.nbt_keep.specs.Turning.{Took, Takes, TakesAny, with_reply, before_it, reached, reply_in, taking, receive_in, Passes, waits, at_once, all_leave, sync_fails, send_fails, Fails, receive_fails, reaching_fails, append_fails, leaving_fails, sending_fails}
 use Rattle.nbt_keep.specs.Runs.{Held, Seen, live_rows, Steps, takes_turn, port_fails, looks, renews, calls_in, turn_of, turns_in, stored_in, gone_in, last_after, last_left, LeavesOut, replies_in, IsEarlier}
 use Rattle.nbt_keep.specs.declared.fault.KeepFault.TheVariants as fault
 use Rattle.nbt_keep.proofs.Left.{last_from}
 use Rattle.nbt_keep.proofs.Never.{never_so}
-use Rattle.nbt_keep.proofs.Crashes.{Past, last_by, by_call, by_calls, datagrams, May, Safe, Along, Good, Goes, along_more, along-append, durable_good, joined, and_then, took, left, part_left, maybe_changed, received, came_to, turn_soon, laid, not_laid, sent_at_once, lost_at_once}
+use Rattle.nbt_keep.proofs.Crashes.{Past, last_by, by_call, by_calls, datagrams, May, Safe, Along, Good, Goes, along_more, along-append, durable_good, joined, and_then, took, left, part_left, maybe_changed, came_to, turn_soon, laid, not_laid, sent_at_once, lost_at_once}
 use Rattle.nbt_keep.proofs.Renewed.{renewed_kept}
 
 module _ (first : ServerValue) (turns : List Turn) (server : ServerValue) (w : WaitingValue) (p : Past) (g : Good first turns server w p) where

@@ -1,5 +1,5 @@
 -- What came of a turn of a server that stays up.
-use Rattle.std.proofs.Common.{◌≡◌, ◌≢◌, ℕ, sym, ap, subst, ◌∙◌, Option}
+use Rattle.std.proofs.Common.{◌≡◌, ◌≢◌, ℕ, sym, subst, ◌∙◌, Option}
 use Rattle.nbt_port.specs.PortCalls.{PortCall}
 use Rattle.nbt_port.specs.Staying.{Takes}
 use Rattle.nbt_port.specs.declared.fault.Fault.{Fault}

@@ -1,6 +1,6 @@
 -- What a datagram that came makes of a server and of what waits.
-use Rattle.std.proofs.Common.{◌≡◌, ℕ, Bool, true, false, not, ◌&&◌, List, [], ◌∷◌, length, refl, sym, ap, ◌∙◌, subst, ⊎_elim, Option, None, Some, Err}
-use Rattle.std.specs.Prelude.{◌↔◌, ◌+◌, ◌<◌, ◌++◌, IsErrOf, is_some, IfSome, nat_lt, filter, map, OnErr}
+use Rattle.std.proofs.Common.{◌≡◌, ℕ, Bool, true, false, not, List, [], ◌∷◌, refl, sym, ap, ◌∙◌, subst, ⊎_elim, Option, None, Some, Err}
+use Rattle.std.specs.Prelude.{◌↔◌, ◌+◌, ◌<◌, IsErrOf, is_some, IfSome, nat_lt}
 use Rattle.std.specs.List.{flat_map}
 use Rattle.std.proofs.lemmas.List.{append-nil}
 use Rattle.nbt_name.specs.declared.addr.Addr.{Addr}
@@ -22,12 +22,12 @@ use Rattle.nbt_server.specs.declared.fault.ServerFault.{ServerFault}
 use Rattle.nbt_server.specs.declared.fault.ServerFault.TheVariants as faults
 use Rattle.nbt_server.specs.declared.outcome.Outcome.{Outcome}
 use Rattle.nbt_store.specs.declared.change.Change.{Change}
-use Rattle.nbt_serve.specs.Serving.{is_empty, is_taken, is_lost, moments_in, Turns, passes, takes, goes_back, has_no_memory, IsLogged}
+use Rattle.nbt_serve.specs.Serving.{is_empty, is_taken, is_lost, Turns, passes, takes, goes_back, has_no_memory, IsLogged}
 use Rattle.nbt_keep.specs.Changing.{IsKept, after_any, IsChange}
-use Rattle.nbt_keep.specs.Waiting.{WaitingValue, with_line, dropped, lay_down, laid_down, LineFails}
+use Rattle.nbt_keep.specs.Waiting.{WaitingValue, with_line, dropped, lay_down, laid_down}
 use Rattle.nbt_keep.specs.Inner.Passing.{goes_where, goes_to, reply_to, is_any}
 use Rattle.nbt_keep.specs.Inner.Taking.{HasTaken, FailsToTake, in_appending}
-use Rattle.nbt_keep.specs.Turning.{Took, Takes, changes_in, reply_in, receive_in, is_unanswered, appends_of, reach, reached, with_lines, with_any, before_it}
+use Rattle.nbt_keep.specs.Turning.{Took, Takes, changes_in, reply_in, is_unanswered, appends_of, reach, reached, with_lines, with_any}
 use Rattle.nbt_keep.proofs.Told.{still_kept}
 
 module _ (old new : ServerValue) (now : ℕ) (from : Addr) (octets : List ℕ) (outcome : Outcome) (change : Option Change) (out : List ℕ) (h : ServerHandles old now from.ip octets outcome out new)

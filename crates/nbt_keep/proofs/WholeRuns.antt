@@ -1,5 +1,5 @@
 -- The laws of whole runs.
-use Rattle.std.proofs.Common.{◌≡◌, ℕ, ◌+◌, ◌≤◌, List, [], ◌∷◌, ◌++◌, Option, Some, None, refl, sym, ap, ◌∙◌, subst, arith}
+use Rattle.std.proofs.Common.{◌≡◌, ℕ, ◌≤◌, List, [], ◌∷◌, ◌++◌, Option, Some, None, refl, sym, ap, ◌∙◌, subst, arith}
 use Rattle.std.proofs.lemmas.List.{append-nil}
 use Rattle.std.proofs.lemmas.List.Concat.{flat_map-append}
 use Rattle.nbt_name.specs.declared.addr.Addr.{Addr}
@@ -16,7 +16,7 @@ use Rattle.nbt_serve.specs.Serving.{Turn, Turns}
 use Rattle.nbt_keep.specs.Changing.{IsKept}
 use Rattle.nbt_keep.specs.Devices.{DeviceCall, on_port, on_store}
 use Rattle.nbt_keep.specs.Waiting.{WaitingValue, durable_then}
-use Rattle.nbt_keep.specs.Turning.{Took, TakesAny, reach}
+use Rattle.nbt_keep.specs.Turning.{Took, TakesAny}
 use Rattle.nbt_keep.specs.Runs.{Held, Seen, live_rows, Steps, takes_turn, port_fails, looks, renews, Ends, store_fails, look_fails, renewal_fails, Runs, goes_on, ends, calls_in, turn_of, turns_in, replies_in, stored_in, gone_in, last_after, last_left, Begins, LeavesOut, nothing, IsEarlier, NoReplyPrecedesItsChange, CrashLeavesAnEarlierServer, ServersGoByTurns}
 use Rattle.nbt_keep.proofs.Left.{out_front, last_from}
 use Rattle.nbt_keep.proofs.Crashes.{Past, last_by, by_call, by_calls, datagrams, Along, Good, Goes, along_more, along-append, durable_good}

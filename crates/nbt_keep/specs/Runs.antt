@@ -14,7 +14,7 @@ use Rattle.nbt_store.specs.Changes.{after_all, no_leases, last_of}
 use Rattle.nbt_serve.specs.Serving.{Turn, Turns}
 use Rattle.nbt_keep.specs.Changing.{IsKept}
 use Rattle.nbt_keep.specs.Devices.{DeviceCall, on_port, on_store}
-use Rattle.nbt_keep.specs.Waiting.{ReplyValue, WaitingValue, none_waits, IsClear, with_line, dropped, lay_down, LineFails}
+use Rattle.nbt_keep.specs.Waiting.{WaitingValue, none_waits, IsClear, with_line, dropped, lay_down, LineFails}
 use Rattle.nbt_keep.specs.Turning.{Took, Takes, TakesAny, reply_in, reach, Passes, Fails}
 use Rattle.nbt_keep.specs.declared.fault.KeepFault.TheVariants as fault
 

@@ -14,7 +14,7 @@ use Rattle.nbt_store.specs.Changes.{at_of}
 use Rattle.nbt_serve.specs.Serving.{Turn, is_empty, is_taken, is_lost, moments_in, Turns, IsLogged}
 use Rattle.nbt_keep.specs.Changing.{IsKept, after_any, changes_leases}
 use Rattle.nbt_keep.specs.Devices.{DeviceCall, on_port, on_store, Devices, DeviceDoes}
-use Rattle.nbt_keep.specs.Waiting.{ReplyValue, WaitingValue, batch, none_waits, IsClear, with_line, durable_then, all_durable, dropped, lay_down, laid_down, LineFails, syncs_of, sends_of, timely, leaving}
+use Rattle.nbt_keep.specs.Waiting.{ReplyValue, WaitingValue, batch, IsClear, with_line, all_durable, dropped, lay_down, laid_down, LineFails, syncs_of, sends_of, timely, leaving}
 use Rattle.nbt_keep.specs.declared.fault.KeepFault.{KeepFault}
 use Rattle.nbt_keep.specs.declared.fault.KeepFault.TheVariants as fault
 

@@ -1,5 +1,5 @@
 -- What a datagram that came makes of a server and of what waits (private functions alone).
-use Rattle.std.specs.Prelude.{◌≡◌, ℕ, ◌+◌, Bool, true, not, nat_lt, List, [], ◌∷◌, ◌++◌, Option, None, Some, is_some}
+use Rattle.std.specs.Prelude.{◌≡◌, ℕ, ◌+◌, Bool, true, not, nat_lt, List, [], ◌∷◌, ◌++◌, Option, Some, is_some}
 use Rattle.std.specs.List.{flat_map}
 use Rattle.nbt_name.specs.declared.addr.Addr.{Addr}
 use Rattle.nbt_log.specs.declared.entry.Entry.{Entry}

@@ -1,11 +1,11 @@
-use Rattle.std.proofs.Common.{◌≡◌, ℕ, ◌<◌, not, List, [], ◌∷◌, ◌++◌, length, refl, sym, ap, subst, ◌∙◌, Option, None, Some, Ok}
+use Rattle.std.proofs.Common.{ℕ, ◌<◌, not, List, [], ◌∷◌, ◌++◌, length, refl, sym, ap, subst, ◌∙◌, Option, None, Some, Ok}
 use Rattle.std.specs.Prelude.{is_some}
 use Rattle.nbt_name.specs.declared.addr.Addr.{Addr}
 use Rattle.std.proofs.lemmas.Result.{err_from_is_err_and}
 use Rattle.nbt_port.specs.PortCalls.{receive_failed, receiving}
 use Rattle.nbt_port.proofs.Chains.{chain-append}
 use Rattle.nbt_serve.specs.Serving.{moments_in}
-use Rattle.nbt_keep.specs.Devices.{on_port, on_store, DeviceDoes}
+use Rattle.nbt_keep.specs.Devices.{on_port, DeviceDoes}
 use Rattle.nbt_keep.specs.Turning.{taking, stores, receive_in, receive_fails}
 use Rattle.nbt_keep.specs.Waiting.{ReplyValue, WaitingValue, batch}
 use Rattle.nbt_keep.specs.Inner.Passing.{reply_to}

@@ -1,6 +1,5 @@
-use Rattle.std.proofs.Common.{ℕ, sym, subst, refl, ap}
+use Rattle.std.proofs.Common.{sym}
 use Rattle.std.proofs.lemmas.Result.{err_from_is_err_and}
-use Rattle.nbt_store.specs.declared.change.Change.TheVariants.{Reached}
 use Rattle.nbt_keep.proofs.Taking.{not_reached, has_reached}
 use Rattle.nbt_keep.proofs.waiting.Waiting.reach.Goals as goal
 
