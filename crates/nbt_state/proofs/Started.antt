@@ -15,21 +15,23 @@ use Rattle.nbt_state.specs.Inner.Starting.{AreRead, Starts, StartsNot, first_kep
 use Rattle.nbt_state.specs.Running.{KeptNbns, BeginsKept, dates_of}
 use Rattle.nbt_keep.specs.Waiting.{WaitingValue, none_waits}
 use Rattle.nbt_state.specs.declared.arguments.StateFolder.{StateFolder}
+use Rattle.nbt_state.specs.declared.opening.Told.{Told}
 use Rattle.nbt_state.specs.declared.starting.KeptServer.{KeptServer}
 use Rattle.nbt_resume.specs.declared.beginning.Begun.{Begun}
 
 -- both clocks stay at what they told
-pub are_read : (steady monotonic day time : ℕ) → AreRead steady monotonic day time → AreRead monotonic monotonic time time
-are_read steady monotonic day time r = record {
+pub are_read : (steady : ℕ) (told : Told) (day : ℕ) → AreRead steady told day → AreRead told.monotonic told told.time
+are_read steady told day r = record {
   boot = r.boot;
   day_before = r.day_before;
   begins = r.begins;
+  before_told = r.before_told;
   monotonic_told = let t = r.monotonic_told in record { reading = t.reading; shown = t.shown; moment_is = t.moment_is; never_back = t.never_back; keeps = refl };
   time_told = (refl, r.time_told.1);
 }
 
 pub is_first_kept : (a : NbnsArguments) (begun : Begun) (monotonic time : ℕ) (store : Bool) (clock day : ℕ) (waiting : WaitingValue) (journal : Journal ℕ FileValue)
-    → store ≡ false → clock ≡ monotonic → day ≡ time → waiting ≡ none_waits → journal ≡ new_journal a (dates_of begun time) 0 begun.start
+    → store ≡ false → clock ≡ monotonic → day ≡ time → waiting ≡ none_waits begun.header.last → journal ≡ new_journal a (dates_of begun time) 0 begun.start
     → kept_of begun store clock day waiting journal a.rows_per_client ≡ first_kept a begun monotonic time
 is_first_kept a begun monotonic time store clock day waiting journal s c d w j = cc
 
@@ -52,14 +54,14 @@ pub begins : (a : NbnsArguments) (state : StateFolder) (goes : (start : ℕ) →
 begins a state goes old_text begun_text text port front kept new s port_is front_is text_is run = record {
   at = s.at;
   boot = s.read.boot;
-  monotonic = s.monotonic;
+  told = s.told;
   day = s.read.day_before;
-  time = s.time;
   begun = s.begun;
   line = s.line;
   begun_text = begun_text;
   last = new;
   begins = s.read.begins;
+  before_told = s.read.before_told;
   monotonic_told = s.read.monotonic_told;
   time_told = s.read.time_told;
   found = s.found;

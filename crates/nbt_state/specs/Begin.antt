@@ -1,5 +1,5 @@
 -- The line with which a name server begins that keeps its leases (our profile).
-use Rattle.std.specs.Prelude.{◌≡◌, ℕ, ◌+◌, ◌-◌, ◌==◌, nat_lt, if◌then◌else◌, List, ◌++◌, codes, Option, Some, None}
+use Rattle.std.specs.Prelude.{◌≡◌, ℕ, ◌+◌, ◌-◌, ◌==◌, max, nat_lt, if◌then◌else◌, List, ◌++◌, codes, Option, Some, None}
 use Rattle.std.specs.Int.{div_ceil}
 use Rattle.std.specs.Fmt.{decimal}
 use Rattle.nbt_name.specs.declared.addr.Addr.{Addr}
@@ -11,7 +11,7 @@ use Rattle.nbt_nbns.specs.Begin.{addresses_text}
 use Rattle.nbt_store.specs.declared.fault.Fault.{Fault}
 use Rattle.nbt_store.specs.declared.fault.Fault.TheVariants.{Empty, Version, Damaged}
 use Rattle.nbt_store.specs.declared.silence.Silence.{Silence}
-use Rattle.nbt_store.specs.declared.silence.Silence.TheVariants.{OtherLife, OtherLongest, OtherRows, OtherBoot, ClockBack}
+use Rattle.nbt_store.specs.declared.silence.Silence.TheVariants.{OtherLife, OtherLongest, OtherRows, BadTimes, OtherBoot, Apart, Older}
 use Rattle.nbt_state.specs.declared.first_line.Manner.{Manner}
 use Rattle.nbt_state.specs.declared.first_line.Manner.TheVariants as manner
 use Rattle.nbt_resume.specs.declared.resuming.Reason.{Reason}
@@ -28,8 +28,10 @@ abbrev pub silence_text : Silence → List ℕ
 silence_text OtherLife = codes "another LIFE"
 silence_text OtherLongest = codes "another LONGEST"
 silence_text OtherRows = codes "another number of rows"
+silence_text BadTimes = codes "times that no server keeps"
 silence_text OtherBoot = codes "another boot"
-silence_text ClockBack = codes "clock went back"
+silence_text Apart = codes "clocks that went apart"
+silence_text Older = codes "kept by an older version"
 
 -- why a server doesn't go on with what was kept
 abbrev pub reason_text : Reason → List ℕ
@@ -57,11 +59,15 @@ IsManner (manner.Silent silent until reason) text = (silence : List ℕ) × IsSi
 abbrev pub IsBegin : (at : List Addr) → Manner → List ℕ → Type 0
 IsBegin at manner line = (text : List ℕ) × IsManner manner text × (line ≡ codes "serving " ++ addresses_text at ++ text ++ newline)
 
+-- when a server speaks that goes on: its silence is over, and it serves
+abbrev pub speaks_at : (longest start serves : ℕ) → ℕ
+speaks_at longest start serves = max (start + milliseconds longest) serves
+
 -- What is said of a server that begins so, at the moment of the dates: for how long it is silent, if it is, with a part of a second counted whole, and why
 -- it begins anew, if it does.
-abbrev pub manner_of : (longest start : ℕ) → Dates → (count : ℕ) → Option Reason → Manner
-manner_of longest start dates count (Some reason) = manner.Silent longest (second_at dates (start + milliseconds longest)) reason
-manner_of longest start dates count None =
-    if nat_lt dates.moment (start + milliseconds longest)
-    then manner.Waits count (div_ceil (start + milliseconds longest - dates.moment) 1000) (second_at dates (start + milliseconds longest))
+abbrev pub manner_of : (longest start serves : ℕ) → Dates → (count : ℕ) → Option Reason → Manner
+manner_of longest start serves dates count (Some reason) = manner.Silent longest (second_at dates (start + milliseconds longest)) reason
+manner_of longest start serves dates count None =
+    if nat_lt dates.moment (speaks_at longest start serves)
+    then manner.Waits count (div_ceil (speaks_at longest start serves - dates.moment) 1000) (second_at dates (speaks_at longest start serves))
     else manner.Speaks count

@@ -24,6 +24,7 @@ use Rattle.nbt_state.specs.Opening.{IsFoundHere}
 use Rattle.nbt_keep.specs.Runs.{live_rows}
 use Rattle.nbt_keep.specs.Staying.{Staying, WatchesOn, WatchesLast, BreaksStaying, CutsStaying}
 use Rattle.nbt_keep.specs.Waiting.{none_waits}
+use Rattle.nbt_state.specs.declared.opening.Told.{Told}
 use Rattle.nbt_state.specs.declared.arguments.ServerArguments.{ServerArguments}
 use Rattle.nbt_state.specs.declared.arguments.StateFolder.{StateFolder}
 use Rattle.nbt_resume.specs.declared.beginning.Begun.{Begun}
@@ -35,12 +36,12 @@ KeptNbns = Staying (Fronted PortsValue) Bool (Ahead ℕ) ℕ (Journal ℕ FileVa
 
 -- the moment and the time of day at which a server begins
 abbrev pub dates_of : Begun → (time : ℕ) → Dates
-dates_of begun time = record { moment = begun.server.last; time = time }
+dates_of begun time = record { moment = begun.reads; time = time }
 
 -- what a server is at first that begins so, at this time of the monotonic clock and this time of day: it limits its clients
 abbrev pub at_first : NbnsArguments → Begun → (monotonic time : ℕ) → Option (List ℕ) → KeptNbns
 at_first a begun monotonic time text = record {
-  keeping = record { port = record { port = record { bind = a.bind; failures = 0 }; front = a.front }; store = false; clock = record { clock = monotonic; by = begun.header.ahead }; server = limited (Some a.rows_per_client) begun.server; waiting = none_waits };
+  keeping = record { port = record { port = record { bind = a.bind; failures = 0 }; front = a.front }; store = false; clock = record { clock = monotonic; by = begun.header.ahead }; server = limited (Some a.rows_per_client) begun.server; waiting = none_waits begun.header.last };
   header = begun.header;
   day = time;
   watcher = new_journal a (dates_of begun time) 0 begun.start;
@@ -51,20 +52,20 @@ at_first a begun monotonic time text = record {
 pub record BeginsKept (a : NbnsArguments) (state : StateFolder) (goes : (start : ℕ) → KeptNbns → KeptNbns → Type 0) (old_text text : Option (List ℕ)) : Type 0 where
   pub at : List Addr
   pub boot : ℕ
-  pub monotonic : ℕ
+  pub told : Told
   pub day : ℕ
-  pub time : ℕ
   pub begun : Begun
   pub line : List ℕ
   pub begun_text : Option (List ℕ)
   pub last : KeptNbns
   pub begins : SteadyBegins SystemShows boot
-  pub monotonic_told : SteadyTells SystemShows boot monotonic monotonic
-  pub time_told : MachineTells day time time
-  pub found : IsFoundHere a.config monotonic time state.silent_after_boot begun
-  pub is_first : IsBegin at (manner_of a.config.longest begun.start (dates_of begun time) (length (live_rows begun.server)) begun.reason) line
+  pub before_told : SteadyTells SystemShows boot told.before told.before
+  pub monotonic_told : SteadyTells SystemShows told.before told.monotonic told.monotonic
+  pub time_told : MachineTells day told.time told.time
+  pub found : IsFoundHere a.config told state.silent_after_boot begun
+  pub is_first : IsBegin at (manner_of a.config.longest begun.start begun.server.last (dates_of begun told.time) (length (live_rows begun.server)) begun.reason) line
   pub printed : Appends old_text begun_text line
-  pub goes_on : goes begun.server.last (at_first a begun monotonic time begun_text) last
+  pub goes_on : goes begun.server.last (at_first a begun told.monotonic told.time begun_text) last
   pub text_is : last.text ≡ text
 
 module _ (strict : Bool) (until : Option ℕ) where

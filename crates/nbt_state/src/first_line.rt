@@ -27,23 +27,25 @@ pub enum Manner {
     Silent(u64, u64, Reason),
 }
 
-/// What is said of a server that begins at the moment of the dates, with so many live leases, and whose longest lease has so many
-/// seconds.
+/// What is said of a server that begins at the moment of the dates, which serves from this moment on, with so many live leases, and
+/// whose longest lease has so many seconds.
 pub fn manner_of(
     longest: u32,
     start: Moment,
+    serves: Moment,
     dates: &Dates,
     count: usize,
     reason: Option<Reason>,
 ) -> Manner
-    ensures { result ≡ manner_of longest start dates.now count reason }
+    ensures { result ≡ manner_of longest start serves dates.now count reason }
 {
-    let speaks = start.get() + SECOND * u64::from(longest);
+    let silent_until = start.get() + SECOND * u64::from(longest);
+    if let Some(reason) = reason {
+        return Manner::Silent(u64::from(longest), dates.second_at(silent_until), reason);
+    }
+    let speaks = silent_until.max(serves.get());
     let until = dates.second_at(speaks);
     let now = dates.moment.get();
-    if let Some(reason) = reason {
-        return Manner::Silent(u64::from(longest), until, reason);
-    }
     if now < speaks {
         return Manner::Waits(count, (speaks - now).div_ceil(SECOND), until);
     }
@@ -128,7 +130,9 @@ fn silence_word(silence: Silence) -> &'static str
         Silence::OtherLife => "another LIFE",
         Silence::OtherLongest => "another LONGEST",
         Silence::OtherRows => "another number of rows",
+        Silence::BadTimes => "times that no server keeps",
         Silence::OtherBoot => "another boot",
-        Silence::ClockBack => "clock went back",
+        Silence::Apart => "clocks that went apart",
+        Silence::Older => "kept by an older version",
     }
 }

@@ -1,20 +1,22 @@
 //! What a server reads and writes at its start, where it keeps its leases.
 
-ghost use Rattle.std.specs.Prelude.{◌≡◌, ◌⊎◌, false, length, IfOk, IfErr, OnOk, OnErr};
-ghost use Rattle.nbt_port.specs.Clocks.{MachineTells};
-ghost use Rattle.nbt_state.specs.Opening.{IsStoreFault, IsFoundHere};
+ghost use Rattle.std.specs.Prelude.{◌≡◌, false, length, IfOk, IfErr};
+ghost use Rattle.nbt_state.specs.Opening.{IsStoreFault, IsFoundHere, seen_in};
+ghost use Rattle.nbt_state.specs.Inner.Starting.{AreRead};
 ghost use Rattle.nbt_keep.specs.Runs.{live_rows};
 
 use crate::arguments::StateFolder;
 use crate::folder::FolderStore;
 use nbt_keep::list_live;
 use nbt_lease::{Config, Moment};
-use nbt_port::Fault;
+use nbt_name::Addr;
+use nbt_port::{Clock, Fault, MachineClock, SteadyClock, readable_clock, steady_clock};
 use nbt_resume::{Begun, Found, Reason, begin, outlasts};
-use nbt_store::{Boot, Fault as FileFault, SystemDisk, this_boot};
+use nbt_store::{Boot, Fault as FileFault, Seen, SystemDisk, this_boot};
 use std::alloc::Global;
 use std::fs::File;
 use std::io::{ErrorKind, Write};
+use std::net::Net;
 use std::rt::Files;
 use std::{io, time};
 
@@ -27,60 +29,158 @@ pub(crate) struct Opened<'a, M: Files> {
     pub count: usize,
 }
 
-/// Opens the folder, which has to be there, for this server alone. Refused with `Memory` or `Store`: a line in `errors` says why.
-pub(crate) fn open_disk<'a, M: Files<File = File>, E: Write>(
-    machine: &'a M,
-    alloc: Global,
+/// A folder that is locked for this server alone. Its file and the machine's clocks are read through it, so after it was locked: no server
+/// that had it before does anything by then.
+#[derive(Drop)]
+pub(crate) struct Locked<'a, M: Files> {
+    disk: SystemDisk<'a, M>,
     folder: &'a str,
-    errors: &mut E,
-) -> Result<SystemDisk<'a, M>, Fault>
-    ensures { IfErr result IsStoreFault }
-{
-    match SystemDisk::open_folder(machine, alloc, folder) {
-        Ok(disk) => Ok(disk),
-        Err(error) if error.kind() == ErrorKind::WouldBlock => {
-            let _ = tell_used(folder, errors);
-            Err(Fault::Store)
+}
+
+/// What both clocks of a machine told at a start.
+#[derive(Clone, Copy, Debug, PartialEq, Eq)]
+pub(crate) struct Told {
+    /// The monotonic clock, at first.
+    pub before: Moment,
+    /// Then the time of day.
+    pub time: Moment,
+    /// Then the monotonic clock again.
+    pub monotonic: Moment,
+}
+
+impl Told {
+    /// The same in this boot.
+    fn seen_in(self, boot: &Boot) -> Seen<'_>
+        ensures { result ≡ seen_in self boot.entry }
+    {
+        Seen {
+            boot,
+            before: self.before,
+            day: self.time,
+            monotonic: self.monotonic,
         }
-        Err(error) => Err(refused("the folder can't be used", folder, error, errors)),
     }
 }
 
-/// Reads the boot and the file of a folder, and a server begins with what is found, at these times. Refused with `Memory`; with
-/// `Store` where they can't be read, and where a lease that was kept may outlast the silence of a server that begins anew, as
-/// [`outlasts`] says: a line in `errors` says which.
-pub(crate) fn begin_in<M: Files<File = File>, E: Write>(
-    machine: &M,
+/// Both clocks of a machine, and what they told.
+#[derive(Drop)]
+pub(crate) struct Clocks<'a, M: time::Clock> {
+    /// The monotonic clock.
+    pub steady: SteadyClock<'a, M>,
+    /// The clock of the time of day.
+    pub day: MachineClock<'a, M>,
+    /// What they told.
+    pub told: Told,
+}
+
+impl<'a, M: Files<File = File>> Locked<'a, M> {
+    /// Locks a folder, which has to be there. Refused with `Memory` or `Store`: a line in `errors` says why.
+    pub fn lock<E: Write>(
+        machine: &'a M,
+        alloc: Global,
+        folder: &'a str,
+        errors: &mut E,
+    ) -> Result<Locked<'a, M>, Fault>
+        ensures { IfErr result IsStoreFault }
+    {
+        match SystemDisk::open_folder(machine, alloc, folder) {
+            Ok(disk) => Ok(Locked { disk, folder }),
+            Err(error) if error.kind() == ErrorKind::WouldBlock => {
+                let _ = tell_used(folder, errors);
+                Err(Fault::Store)
+            }
+            Err(error) => Err(refused("the folder can't be used", folder, error, errors)),
+        }
+    }
+
+    /// Reads the boot and the file, and a server begins with what is found, by what these clocks of this machine told. Refused with
+    /// `Memory`; with `Store` where they can't be read, and where a lease that was kept may outlast the silence of a server that begins
+    /// anew, as [`outlasts`] says: a line in `errors` says which.
+    pub fn begin<E: Write>(
+        &self,
+        machine: &M,
+        alloc: Global,
+        state: &StateFolder,
+        config: Config,
+        told: Told,
+        errors: &mut E,
+    ) -> Result<Begun, Fault>
+        ensures ok { IfOk result (IsFoundHere config told state.now.silent_after_boot) }
+        ensures err { IfErr result IsStoreFault }
+    {
+        let boot = boot_here(machine, alloc, self.folder, errors)?;
+        let kept = match self.disk.read(alloc) {
+            Ok(kept) => kept,
+            Err(error) => {
+                return Err(refused("the leases can't be read", self.folder, error, errors));
+            }
+        };
+        let found = Found {
+            kept: kept.as_ref().map(|octets| octets.as_slice()),
+            config,
+            seen: told.seen_in(&boot),
+            silent_after_boot: state.silent_after_boot,
+        };
+        if outlasts(alloc, &found)? {
+            let _ = tell_outlasted(self.folder, config, errors);
+            return Err(Fault::Store);
+        }
+        Ok(begin(alloc, &found)?)
+    }
+}
+
+impl<'a, M: Net + time::Clock + Files<File = File>> Locked<'a, M> {
+    /// Reads both clocks of the machine. Refused with `NoClock` where one can't be read: a line in `errors` says why.
+    pub fn clocks<'m, E: Write>(
+        &self,
+        machine: &'m M,
+        addr: Addr,
+        errors: &mut E,
+    ) -> Result<Clocks<'m, M>, Fault>
+        ensures ok { IfOk result (λ clocks. AreRead clocks.steady clocks.told clocks.day) }
+        ensures err { IfErr result (λ fault. fault ≡ Fault.NoClock) }
+    {
+        let mut steady = steady_clock(machine, addr, errors)?;
+        let mut day = readable_clock(machine, addr, errors)?;
+        let before = steady.now();
+        let time = day.now();
+        let monotonic = steady.now();
+        let told = Told {
+            before,
+            time,
+            monotonic,
+        };
+        Ok(Clocks { steady, day, told })
+    }
+}
+
+/// Opens the store of a folder with the leases of a server that begins. A file that is damaged or of another version is set aside before.
+/// Refused with `Memory` or `Store`.
+pub(crate) fn open_store<'a, M: Files<File = File> + time::Clock, E: Write>(
+    locked: Locked<'a, M>,
     alloc: Global,
-    disk: &SystemDisk<'_, M>,
-    state: &StateFolder,
-    config: Config,
-    monotonic: Moment,
-    day: Moment,
+    begun: &Begun,
     errors: &mut E,
-) -> Result<Begun, Fault>
-    ensures ok { IfOk result (IsFoundHere config monotonic day state.now.silent_after_boot) }
+) -> Result<Opened<'a, M>, Fault>
+    ensures store { IfOk result (λ opened. opened.store ≡ false) }
+    ensures count { IfOk result (λ opened. opened.count ≡ length (live_rows begun.now.server)) }
     ensures err { IfErr result IsStoreFault }
 {
-    let folder = state.path.as_str();
-    let boot = boot_here(machine, alloc, folder, errors)?;
-    let kept = match disk.read(alloc) {
-        Ok(kept) => kept,
-        Err(error) => return Err(refused("the leases can't be read", folder, error, errors)),
-    };
-    let found = Found {
-        kept: kept.as_ref().map(|octets| octets.as_slice()),
-        config,
-        boot: &boot,
-        monotonic,
-        day,
-        silent_after_boot: state.silent_after_boot,
-    };
-    if outlasts(alloc, &found)? {
-        let _ = tell_outlasted(folder, config, errors);
-        return Err(Fault::Store);
+    let Locked { mut disk, folder } = locked;
+    if is_unreadable(&begun.reason) {
+        if let Err(error) = disk.set_aside() {
+            return Err(refused("the old leases can't be set aside", folder, error, errors));
+        }
     }
-    Ok(begin(alloc, &found)?)
+    let mut rows = Vec::new(alloc);
+    list_live(&begun.server, &mut rows)?;
+    match FolderStore::open(disk, alloc, &begun.header, rows.as_slice()) {
+        Ok(store) => Ok(Opened {
+            store,
+            count: rows.len(),
+        }),
+        Err(error) => Err(refused("the leases can't be kept", folder, error, errors)),
+    }
 }
 
 /// The boot of this machine. Refused with `Memory` or `Store`.
@@ -104,36 +204,6 @@ fn boot_here<M: Files, E: Write>(
             error,
             errors,
         )),
-    }
-}
-
-/// Opens the store of a folder with the leases of a server that begins. A file that is damaged or of another version is set aside
-/// before. Refused with `Memory` or `Store`.
-pub(crate) fn open_store<'a, M: Files<File = File> + time::Clock, E: Write>(
-    disk: SystemDisk<'a, M>,
-    alloc: Global,
-    folder: &str,
-    begun: &Begun,
-    errors: &mut E,
-) -> Result<Opened<'a, M>, Fault>
-    ensures store { IfOk result (λ opened. opened.store ≡ false) }
-    ensures count { IfOk result (λ opened. opened.count ≡ length (live_rows begun.now.server)) }
-    ensures err { IfErr result IsStoreFault }
-{
-    let mut disk = disk;
-    if is_unreadable(&begun.reason) {
-        if let Err(error) = disk.set_aside() {
-            return Err(refused("the old leases can't be set aside", folder, error, errors));
-        }
-    }
-    let mut rows = Vec::new(alloc);
-    list_live(&begun.server, &mut rows)?;
-    match FolderStore::open(disk, alloc, &begun.header, rows.as_slice()) {
-        Ok(store) => Ok(Opened {
-            store,
-            count: rows.len(),
-        }),
-        Err(error) => Err(refused("the leases can't be kept", folder, error, errors)),
     }
 }
 

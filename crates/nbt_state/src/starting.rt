@@ -2,23 +2,21 @@
 
 ghost use Rattle.std.specs.Prelude.{◌≡◌, ◌⊎◌, ℕ, List, OnOk, IfOk, IfErr};
 ghost use Rattle.std.specs.Io.KnownBytes.{Appends};
+ghost use Rattle.nbt_name.specs.declared.addr.Addr.{Addr};
 ghost use Rattle.nbt_nbns.specs.Running.{new_journal};
 ghost use Rattle.nbt_state.specs.Begin.{IsBegin, manner_of};
 ghost use Rattle.nbt_state.specs.Running.{dates_of};
-ghost use Rattle.nbt_state.specs.Inner.Starting.{AreRead, Starts, StartsNot, kept_of};
+ghost use Rattle.nbt_state.specs.Inner.Starting.{Starts, StartsNot, kept_of};
 
 use crate::arguments::StateFolder;
 use crate::first_line::{Manner, manner_of, write_begin};
 use crate::folder::FolderStore;
-use crate::opening::{begin_in, open_disk, open_store};
+use crate::opening::{Clocks, Locked, open_store};
 use nbt_keep::Waiting;
 use nbt_lease::Moment;
 use nbt_log::Dates;
-use nbt_name::Addr;
 use nbt_nbns::{FilePlace, Journal, NbnsArguments, journal_of};
-use nbt_port::{
-    Ahead, Clock, Fault, MachineClock, SteadyClock, UdpPorts, print, readable_clock, steady_clock,
-};
+use nbt_port::{Ahead, Fault, MachineClock, SteadyClock, UdpPorts, print};
 use nbt_resume::Begun;
 use nbt_server::Server;
 use nbt_store::Header;
@@ -59,7 +57,7 @@ pub(crate) type Started<'a, M> = KeptServer<
 /// What sees its turns.
 type MachineJournal<'a, M> = Journal<MachineClock<'a, M>, FilePlace<'a, M>>;
 
-/// Reads the clocks and the folder, and prints how a server begins with what is found. Refused with `Output`, and else with another
+/// Locks the folder, reads then the clocks and the file, and prints how a server begins with what is found. Refused with `Output`, and else with another
 /// fault than `Device`, before anything is printed; a line in `errors` says why.
 pub(crate) fn start<'a, M: Net + time::Clock + Files<File = File>, W: Write, E: Write>(
     machine: &'a M,
@@ -73,23 +71,13 @@ pub(crate) fn start<'a, M: Net + time::Clock + Files<File = File>, W: Write, E: 
     ensures ok { IfOk result (λ kept. Starts arguments.now state.now (W.contents writer.old) (W.contents writer.new) kept) }
     ensures err { IfErr result (StartsNot (W.contents writer.old) (W.contents writer.new)) }
 {
-    let clocks = clocks_of(machine, arguments.bind.first(), errors)?;
-    let monotonic = clocks.monotonic;
-    let time = clocks.time;
-    let folder = state.path.as_str();
-    let disk = open_disk(machine, alloc, folder, errors)?;
-    let begun = begin_in(
-        machine,
-        alloc,
-        &disk,
-        state,
-        arguments.config,
-        monotonic,
-        time,
-        errors,
-    )?;
-    let opened = open_store(disk, alloc, folder, &begun, errors)?;
-    let waiting = Waiting::new(alloc)?;
+    let locked = Locked::lock(machine, alloc, state.path.as_str(), errors)?;
+    let clocks = locked.clocks(machine, arguments.bind.first(), errors)?;
+    let told = clocks.told;
+    let time = told.time;
+    let begun = locked.begin(machine, alloc, state, arguments.config, told, errors)?;
+    let opened = open_store(locked, alloc, &begun, errors)?;
+    let waiting = Waiting::new(alloc, begun.header.last)?;
     let journal = tell_begin(
         machine,
         alloc,
@@ -140,36 +128,6 @@ fn kept_of<'a, M: Net + time::Clock + Files>(
     }
 }
 
-/// Both clocks of a machine, and what they told.
-#[derive(Drop)]
-struct Clocks<'a, M: time::Clock> {
-    steady: SteadyClock<'a, M>,
-    day: MachineClock<'a, M>,
-    monotonic: Moment,
-    time: Moment,
-}
-
-/// Reads both clocks of a machine. Refused with `NoClock` where one can't be read: a line in `errors` says why.
-fn clocks_of<'a, M: Net + time::Clock, E: Write>(
-    machine: &'a M,
-    addr: Addr,
-    errors: &mut E,
-) -> Result<Clocks<'a, M>, Fault>
-    ensures ok { IfOk result (λ clocks. AreRead clocks.steady clocks.monotonic clocks.day clocks.time) }
-    ensures err { IfErr result (λ fault. fault ≡ Fault.NoClock) }
-{
-    let mut steady = steady_clock(machine, addr, errors)?;
-    let mut day = readable_clock(machine, addr, errors)?;
-    let monotonic = steady.now();
-    let time = day.now();
-    Ok(Clocks {
-        steady,
-        day,
-        monotonic,
-        time,
-    })
-}
-
 /// The journal of a server that begins so, at this time of the day, with so many leases: once it is there, the first line is printed,
 /// and flushed. Refused as [`start`].
 fn tell_begin<'a, M: Net + time::Clock + Files, W: Write, E: Write>(
@@ -184,17 +142,18 @@ fn tell_begin<'a, M: Net + time::Clock + Files, W: Write, E: Write>(
     errors: &mut E,
 ) -> Result<MachineJournal<'a, M>, Fault>
     ensures journal { IfOk result (λ journal. journal ≡ new_journal arguments.now (dates_of begun.now time) 0 begun.now.start) }
-    ensures line { OnOk result ((at : List Addr) × (line : List ℕ) × IsBegin at (manner_of arguments.now.config.longest begun.now.start (dates_of begun.now time) count begun.now.reason) line × Appends (W.contents writer.old) (W.contents writer.new) line) }
+    ensures line { OnOk result ((at : List Addr) × (line : List ℕ) × IsBegin at (manner_of arguments.now.config.longest begun.now.start begun.now.server.last (dates_of begun.now time) count begun.now.reason) line × Appends (W.contents writer.old) (W.contents writer.new) line) }
     ensures err { IfErr result (StartsNot (W.contents writer.old) (W.contents writer.new)) }
 {
     let dates = Dates {
-        moment: begun.server.last(),
+        moment: begun.reads,
         time,
     };
     let day = MachineClock::new(machine);
     let journal = journal_of(machine, alloc, arguments, dates, day, begun.start, errors)?;
     let longest = arguments.config.longest();
-    let manner = manner_of(longest, begun.start, &dates, count, begun.reason);
+    let speaks = begun.server.last();
+    let manner = manner_of(longest, begun.start, speaks, &dates, count, begun.reason);
     print_begin(alloc, port, manner, writer, errors)?;
     Ok(journal)
 }

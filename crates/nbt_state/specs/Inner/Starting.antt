@@ -17,16 +17,18 @@ use Rattle.nbt_state.specs.Running.{dates_of}
 use Rattle.nbt_keep.specs.Runs.{live_rows}
 use Rattle.nbt_keep.specs.Waiting.{WaitingValue, none_waits}
 use Rattle.nbt_state.specs.declared.arguments.StateFolder.{StateFolder}
+use Rattle.nbt_state.specs.declared.opening.Told.{Told}
 use Rattle.nbt_state.specs.declared.starting.KeptServer.{KeptServer}
 use Rattle.nbt_resume.specs.declared.beginning.Begun.{Begun}
 
--- The steady clock and that of the day were begun, and each told its first time.
-pub record AreRead (steady monotonic day time : ℕ) : Type 0 where
+-- The steady clock and that of the day were begun, and told this, the steady one twice.
+pub record AreRead (steady : ℕ) (told : Told) (day : ℕ) : Type 0 where
   pub boot : ℕ
   pub day_before : ℕ
   pub begins : SteadyBegins SystemShows boot
-  pub monotonic_told : SteadyTells SystemShows boot monotonic steady
-  pub time_told : MachineTells day_before time day
+  pub before_told : SteadyTells SystemShows boot told.before told.before
+  pub monotonic_told : SteadyTells SystemShows told.before told.monotonic steady
+  pub time_told : MachineTells day_before told.time day
 
 -- what goes on of a server that begins so, beside its port, with this store, these clocks and this journal: it limits its clients
 abbrev pub kept_of : Begun → (store : Bool) → (clock day : ℕ) → WaitingValue → Journal ℕ FileValue → (rows_per_client : ℕ) → KeptServer Bool (Ahead ℕ) ℕ (Journal ℕ FileValue)
@@ -42,20 +44,19 @@ kept_of begun store clock day waiting journal rows_per_client = record {
 
 -- what it is at first, at these times
 abbrev pub first_kept : NbnsArguments → Begun → (monotonic time : ℕ) → KeptServer Bool (Ahead ℕ) ℕ (Journal ℕ FileValue)
-first_kept a begun monotonic time = kept_of begun false monotonic time none_waits (new_journal a (dates_of begun time) 0 begun.start) a.rows_per_client
+first_kept a begun monotonic time = kept_of begun false monotonic time (none_waits begun.header.last) (new_journal a (dates_of begun time) 0 begun.start) a.rows_per_client
 
--- The clocks are read, a server begins with what is found, and the first line is printed.
+-- The folder is locked, the clocks are read, a server begins with what is found, and the first line is printed.
 pub record Starts (a : NbnsArguments) (state : StateFolder) (old_text text : Option (List ℕ)) (kept : KeptServer Bool (Ahead ℕ) ℕ (Journal ℕ FileValue)) : Type 0 where
-  pub monotonic : ℕ
-  pub time : ℕ
+  pub told : Told
   pub begun : Begun
   pub at : List Addr
   pub line : List ℕ
-  pub read : AreRead monotonic monotonic time time
-  pub found : IsFoundHere a.config monotonic time state.silent_after_boot begun
-  pub is_first : IsBegin at (manner_of a.config.longest begun.start (dates_of begun time) (length (live_rows begun.server)) begun.reason) line
+  pub read : AreRead told.monotonic told told.time
+  pub found : IsFoundHere a.config told state.silent_after_boot begun
+  pub is_first : IsBegin at (manner_of a.config.longest begun.start begun.server.last (dates_of begun told.time) (length (live_rows begun.server)) begun.reason) line
   pub printed : Appends old_text text line
-  pub kept_is : kept ≡ first_kept a begun monotonic time
+  pub kept_is : kept ≡ first_kept a begun told.monotonic told.time
 
 -- It doesn't: the line can't be written, or nothing was printed, and it isn't for the device.
 abbrev pub StartsNot : (old_text text : Option (List ℕ)) → Fault → Type 0

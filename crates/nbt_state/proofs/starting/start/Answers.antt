@@ -12,16 +12,15 @@ returns-clause-ok g c =
     let line = c.in_ok-journal.ensures.line in
     let read = c.in_ok-clocks.ensures.ok in
     record {
-      monotonic = clocks.monotonic;
-      time = clocks.time;
+      told = clocks.told;
       begun = begun;
       at = line.0;
       line = line.1;
-      read = are_read clocks.steady clocks.monotonic clocks.day clocks.time read;
+      read = are_read clocks.steady clocks.told clocks.day read;
       found = c.in_ok-begun.ensures.ok;
       is_first = rw (← c.in_ok-opened.ensures.count) line.2;
       printed = line.3;
-      kept_is = c.kept_of.ensures ∙ is_first_kept a begun clocks.monotonic clocks.time opened.store clocks.steady clocks.day c.in_ok-waiting.waiting c.in_ok-journal.journal
+      kept_is = c.kept_of.ensures ∙ is_first_kept a begun clocks.told.monotonic clocks.told.time opened.store clocks.steady clocks.day c.in_ok-waiting.waiting c.in_ok-journal.journal
           c.in_ok-opened.ensures.store read.monotonic_told.keeps read.time_told.0 c.in_ok-waiting.ensures c.in_ok-journal.ensures.journal;
     }
 
