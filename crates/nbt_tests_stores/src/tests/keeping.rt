@@ -789,7 +789,8 @@ impl Scene for Stays {
         let mut store = store(rt, self.trouble);
         let mut waiting = Waiting::new(rt.alloc(), self.durable).expect(rt, "waiting");
         let mut header = header(rt);
-        (header.last, header.day) = self.pair;
+        header.last = self.pair.0;
+        header.day = self.pair.1;
         let mut day = clock(rt, self.days).expect(rt, "a clock");
         let mut stage = Stage {
             port,
