@@ -89,6 +89,7 @@ impl<'a, R: Files<File = File>> SystemDisk<'a, R> {
         let (mut locked, lock) = open_lock(machine, lock_path.as_str())?;
         locked.try_lock()?;
         say_lock(&mut locked)?;
+        keep_to_owner(&locked)?;
         let disk = SystemDisk {
             machine,
             folder,
@@ -168,8 +169,7 @@ fn check_kind<R: Files>(machine: &R, path: &str, why_not: &'static str) -> io::R
     }
 }
 
-/// Opens the file `lock` of a folder, and makes it if it isn't there, for its owner alone; an older one is made so. Nothing is changed in
-/// a file that a link led to meanwhile.
+/// Opens the file `lock` of a folder, and makes it if it isn't there, for its owner alone. Refused where a link led to it meanwhile.
 fn open_lock<R: Files>(machine: &R, path: &str) -> io::Result<(R::File, Mark)> {
     check_kind(machine, path, "lock is no regular file")?;
     let mut how = File::options();
@@ -178,13 +178,17 @@ fn open_lock<R: Files>(machine: &R, path: &str) -> io::Result<(R::File, Mark)> {
     how.create(true);
     how.mode(LOCK_MODE);
     let file = how.open(machine, path)?;
-    let metadata = file.metadata()?;
-    let mark = Mark::of(&metadata);
+    let mark = Mark::of(&file.metadata()?);
     check_mark(machine, path, mark)?;
-    if metadata.mode() & MODES != LOCK_MODE {
-        file.set_permissions(Permissions::from_mode(LOCK_MODE))?;
-    }
     Ok((file, mark))
+}
+
+/// Lets the owner of a file alone open it: an older server made its lock for everybody.
+fn keep_to_owner(file: &File) -> io::Result<()> {
+    if file.metadata()?.mode() & MODES == LOCK_MODE {
+        return Ok(());
+    }
+    file.set_permissions(Permissions::from_mode(LOCK_MODE))
 }
 
 /// Has the file `lock` say what it is, where it is empty. Refused where it says something else: it is somebody's file.
