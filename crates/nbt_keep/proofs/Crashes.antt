@@ -14,15 +14,17 @@ use Rattle.nbt_port.proofs.Chains.{chain_on}
 use Rattle.nbt_server.specs.Serving.{ServerValue}
 use Rattle.nbt_store.specs.declared.change.Change.{Change}
 use Rattle.nbt_store.specs.declared.change.Change.TheVariants.{Reached}
+use Rattle.nbt_store.specs.declared.form.Form.TheVariants.{Three}
+use Rattle.nbt_store.specs.Lines.{AllStand}
 use Rattle.nbt_store.specs.Calls.{StoreCall, appended, append_failed, synced, sync_failed, renewed, renew_failed, Kept, after_call}
-use Rattle.nbt_store.specs.Changes.{after, after_all, last_of, no_leases}
+use Rattle.nbt_store.specs.Changes.{after, after_all, last_of, no_leases, Stands}
 use Rattle.nbt_serve.specs.Serving.{Turn, is_empty, is_taken, is_lost, moments_in, Turns, passes, takes, goes_back, has_no_memory}
 use Rattle.nbt_keep.specs.Changing.{IsKept}
 use Rattle.nbt_keep.specs.Devices.{DeviceCall, on_port, on_store}
 use Rattle.nbt_keep.specs.Waiting.{ReplyValue, WaitingValue, with_line, durable_then, all_durable, dropped, lay_down, laid_down, LineFails, not_appended, not_synced, syncs_of, sends_of, timely, leaving}
 use Rattle.nbt_keep.specs.Turning.{Took, Takes, reply_in, receive_in, reach, reached, with_lines, before_it, with_any, with_reply, appends_of, behind, taking}
 use Rattle.nbt_keep.specs.Runs.{IsEarlier, LeavesOut, replies_in}
-use Rattle.nbt_keep.proofs.Left.{out_behind, out_front, out_filtered, out_mapped, out_before, out_twice, last_on, last_at}
+use Rattle.nbt_keep.proofs.Left.{stand_more, out_behind, out_front, out_filtered, out_mapped, out_before, out_twice, last_on, last_at}
 
 -- ---- one call
 
@@ -110,6 +112,7 @@ module _ (first : ServerValue) where
   pub record Good (turns : List Turn) (server : ServerValue) (w : WaitingValue) (p : Past) : Type 0 where
     pub run : Chain Turns first turns server
     pub leases : IsKept (after_all p.kept.changes no_leases) server
+    pub stand : AllStand Three p.kept.changes no_leases
     pub safe : Safe turns p
     pub replies : LeavesOut (p.gone ++ datagrams w.replies) (replies_in turns)
     pub all : w.unsynced ≡ None → p.kept.durable ≡ length p.kept.changes
@@ -129,6 +132,7 @@ module _ (first : ServerValue) where
     turns_are = ap (λ (ts : List Turn). ts ++ more) e.turns_are ∙ append_assoc e.front e.back more;
     run = e.run;
     leases = e.leases;
+    stand = e.stand;
     replies = e.replies;
     soon = e.soon;
   }
@@ -145,28 +149,30 @@ module _ (first : ServerValue) where
   along-append turns (x ∷ xs) ys p a b = (a.0, a.1, along-append turns xs ys (by_call x p) a.2 b)
 
   -- what a crash leaves of all of it
-  whole : (turns : List Turn) (server : ServerValue) (replies : List DatagramValue) (p : Past) → Chain Turns first turns server → IsKept (after_all p.kept.changes no_leases) server
+  whole : (turns : List Turn) (server : ServerValue) (replies : List DatagramValue) (p : Past) → Chain Turns first turns server → IsKept (after_all p.kept.changes no_leases) server → AllStand Three p.kept.changes no_leases
       → LeavesOut (p.gone ++ replies) (replies_in turns) → server.last ≤ last_of p.last p.kept.changes + reach → IsEarlier first turns p.gone p.last p.kept.changes
-  whole turns server replies p run leases are soon = record {
+  whole turns server replies p run leases stand are soon = record {
     front = turns;
     back = [];
     server = server;
     turns_are = sym (append-nil turns);
     run = run;
     leases = leases;
+    stand = stand;
     replies = out_front p.gone replies (replies_in turns) are;
     soon = soon;
   }
 
   -- all is durable
-  pub durable_good : (turns : List Turn) (server : ServerValue) (w : WaitingValue) (p : Past) → Chain Turns first turns server → IsKept (after_all p.kept.changes no_leases) server → LeavesOut (p.gone ++ datagrams w.replies) (replies_in turns)
+  pub durable_good : (turns : List Turn) (server : ServerValue) (w : WaitingValue) (p : Past) → Chain Turns first turns server → IsKept (after_all p.kept.changes no_leases) server → AllStand Three p.kept.changes no_leases → LeavesOut (p.gone ++ datagrams w.replies) (replies_in turns)
       → p.kept.durable ≡ length p.kept.changes → durable_then w.durable w.unsynced ≤ last_of p.last p.kept.changes → server.last ≤ w.durable + reach → Good turns server w p
-  durable_good turns server w p run leases are all times soon = record {
+  durable_good turns server w p run leases stand are all times soon = record {
     run = run;
     leases = leases;
+    stand = stand;
     safe = λ count least most.
         subst (IsEarlier first turns p.gone p.last) (sym (take_all count p.kept.changes (omega (arith, all, least))))
-        (whole turns server (datagrams w.replies) p run leases are (let l = then_later w.durable w.unsynced in omega (arith, l, times, soon)));
+        (whole turns server (datagrams w.replies) p run leases stand are (let l = then_later w.durable w.unsynced in omega (arith, l, times, soon)));
     replies = are;
     all = λ _. all;
     times = times;
@@ -211,7 +217,7 @@ module _ (first : ServerValue) where
   more p change = record p { kept = record { changes = p.kept.changes ++ change ∷ []; durable = p.kept.durable } }
 
   -- A change is appended: the server is one that has it, and so many replies wait.
-  module _ (turns : List Turn) (change : Change) (server : ServerValue) (w : WaitingValue) (replies : List ReplyValue) (p : Past) (safe : Safe turns p) (run : Chain Turns first turns server) (leases : IsKept (after_all (p.kept.changes ++ change ∷ []) no_leases) server)
+  module _ (turns : List Turn) (change : Change) (server : ServerValue) (w : WaitingValue) (replies : List ReplyValue) (p : Past) (safe : Safe turns p) (run : Chain Turns first turns server) (leases : IsKept (after_all (p.kept.changes ++ change ∷ []) no_leases) server) (stand : AllStand Three (p.kept.changes ++ change ∷ []) no_leases)
       (are : LeavesOut (p.gone ++ datagrams replies) (replies_in turns)) (times : w.durable ≤ last_of p.last p.kept.changes) (soon : server.last ≤ w.durable + reach) where
     last_one : (count : ℕ) → ¬ (count < length p.kept.changes + 1) → count ≤ length (p.kept.changes ++ change ∷ []) → length (p.kept.changes ++ change ∷ []) ≤ count
     last_one count not most = let l = length-append p.kept.changes (change ∷ []) in omega (arith, l, not, most)
@@ -224,7 +230,7 @@ module _ (first : ServerValue) where
         ⊎_elim
         (λ few. subst (IsEarlier first turns p.gone p.last) (sym (take-append-le count p.kept.changes (change ∷ []) (omega (arith, few)))) (safe count least (omega (arith, few))))
         (λ many. subst (IsEarlier first turns p.gone p.last) (sym (take_all count (p.kept.changes ++ change ∷ []) (let l = length-append p.kept.changes (change ∷ []) in omega (arith, l, many))))
-        (whole turns server (datagrams replies) (more p change) run leases are grown_soon))
+        (whole turns server (datagrams replies) (more p change) run leases stand are grown_soon))
         (cases_lt count (length p.kept.changes + 1))
 
     pub grown : Goes turns server (record (with_line change w) { replies = replies }) p (on_store (appended change) ∷ [])
@@ -233,6 +239,7 @@ module _ (first : ServerValue) where
       good = record {
         run = run;
         leases = leases;
+        stand = stand;
         safe = grown_safe;
         replies = are;
         all = λ none. absurd cc;
@@ -251,7 +258,7 @@ module _ (first : ServerValue) where
     where
       good_then : (q : Past) → q.gone ≡ p.gone → q.last ≡ p.last → q.kept.changes ≡ p.kept.changes → q.kept.durable ≡ length q.kept.changes → Good turns server (all_durable w) q
       good_then q gone last changes all =
-          durable_good turns server (all_durable w) q g.run (subst (λ (cs : List Change). IsKept (after_all cs no_leases) server) (sym changes) g.leases) (subst (λ (ds : List DatagramValue). LeavesOut (ds ++ datagrams w.replies) (replies_in turns)) (sym gone) g.replies)
+          durable_good turns server (all_durable w) q g.run (subst (λ (cs : List Change). IsKept (after_all cs no_leases) server) (sym changes) g.leases) (subst (λ (cs : List Change). AllStand Three cs no_leases) (sym changes) g.stand) (subst (λ (ds : List DatagramValue). LeavesOut (ds ++ datagrams w.replies) (replies_in turns)) (sym gone) g.replies)
           all (subst (λ (n : ℕ). durable_then w.durable w.unsynced ≤ n) (sym (ap (λ (n : ℕ). last_of n q.kept.changes) last ∙ ap (last_of p.last) changes)) g.times) (let l = then_later w.durable w.unsynced in let s = g.soon in omega (arith, l, s))
 
       by_kind : (u : Option ℕ) → w.unsynced ≡ u → Goes turns server (all_durable w) p (map on_store (syncs_of u))
@@ -261,29 +268,32 @@ module _ (first : ServerValue) where
           record { along = (g.safe, tt, h.safe); good = h }
 
   -- a line that changes no lease is appended, and becomes durable
-  module _ (turns : List Turn) (server : ServerValue) (w : WaitingValue) (p : Past) (line : Change) (same : (leases : Leases) → after line leases ≡ leases) (g : Good turns server w p) where
+  module _ (turns : List Turn) (server : ServerValue) (w : WaitingValue) (p : Past) (line : Change) (same : (leases : Leases) → after line leases ≡ leases) (stands : (leases : Leases) → Stands line leases) (g : Good turns server w p) where
     line_kept : IsKept (after_all (p.kept.changes ++ line ∷ []) no_leases) server
     line_kept = subst (λ (f : Leases). IsKept f server) (sym (all_then p.kept.changes line no_leases ∙ same (after_all p.kept.changes no_leases))) g.leases
+
+    line_stands : AllStand Three (p.kept.changes ++ line ∷ []) no_leases
+    line_stands = stand_more p.kept.changes line no_leases g.stand (stands (after_all p.kept.changes no_leases))
 
     durable_by : w.durable ≤ last_of p.last p.kept.changes
     durable_by = let l = then_later w.durable w.unsynced in let t = g.times in omega (arith, l, t)
 
     line_grown : Goes turns server (with_line line w) p (on_store (appended line) ∷ [])
-    line_grown = grown turns line server w w.replies p g.safe g.run line_kept g.replies durable_by g.soon
+    line_grown = grown turns line server w w.replies p g.safe g.run line_kept line_stands g.replies durable_by g.soon
 
     pub laid : Goes turns server (laid_down line w) p (map on_store (lay_down line))
     laid = and_then turns server server (with_line line w) (laid_down line w) p (on_store (appended line) ∷ []) (on_store synced ∷ []) line_grown (λ h. now_durable turns server (with_line line w) _ h)
 
     -- or the store fails at that
     pub not_laid : (calls : List StoreCall) → LineFails line calls → Along turns p (map on_store calls)
-    not_laid _ not_appended = maybe_grown turns line server w w.replies p g.safe g.run line_kept g.replies durable_by g.soon
+    not_laid _ not_appended = maybe_grown turns line server w w.replies p g.safe g.run line_kept line_stands g.replies durable_by g.soon
     not_laid _ not_synced = let a = line_grown in along-append turns (on_store (appended line) ∷ []) (on_store sync_failed ∷ []) p a.along (a.good.safe, tt, a.good.safe)
 
   all_laid : (moments : List ℕ) (turns : List Turn) (server : ServerValue) (w : WaitingValue) (p : Past) → Good turns server w p
       → Goes turns server (with_lines (map Reached moments) w) p (map on_store (flat_map lay_down (map Reached moments)))
   all_laid [] turns server w p g = still turns server w p g
   all_laid (m ∷ ms) turns server w p g =
-      and_then turns server server (laid_down (Reached m) w) (with_lines (map Reached (m ∷ ms)) w) p (map on_store (lay_down (Reached m))) (map on_store (flat_map lay_down (map Reached ms))) (laid turns server w p (Reached m) (λ leases. refl) g)
+      and_then turns server server (laid_down (Reached m) w) (with_lines (map Reached (m ∷ ms)) w) p (map on_store (lay_down (Reached m))) (map on_store (flat_map lay_down (map Reached ms))) (laid turns server w p (Reached m) (λ leases. refl) (λ leases. tt) g)
       (λ h. all_laid ms turns server (laid_down (Reached m) w) _ h)
 
   -- the lines before a datagram is handled
@@ -300,6 +310,7 @@ module _ (first : ServerValue) where
     quiet p taken g = record {
       run = chain_on Turns first server new turns turn g.run taken.server;
       leases = taken.keeps (after_all p.kept.changes no_leases) g.leases;
+      stand = g.stand;
       safe = safe_more turns (turn ∷ []) p g.safe;
       replies = more_replies turn turns v.replies p.gone g.replies;
       all = g.all;
@@ -312,14 +323,17 @@ module _ (first : ServerValue) where
       kept_more : IsKept (after_all (p.kept.changes ++ change ∷ []) no_leases) new
       kept_more = subst (λ (f : Leases). IsKept f new) (sym (all_then p.kept.changes change no_leases)) (taken.keeps (after_all p.kept.changes no_leases) g.leases)
 
+      stand_here : AllStand Three (p.kept.changes ++ change ∷ []) no_leases
+      stand_here = stand_more p.kept.changes change no_leases g.stand (taken.stands (after_all p.kept.changes no_leases) g.leases)
+
       durable_here : v.durable ≤ last_of p.last p.kept.changes
       durable_here = let l = then_later v.durable v.unsynced in let t = g.times in omega (arith, l, t)
 
       pub changed : Goes (turns ++ turn ∷ []) new (behind (reply_in turn) (with_line change v)) p (on_store (appended change) ∷ [])
-      changed = grown (turns ++ turn ∷ []) change new v (v.replies ++ reply_in turn) p (safe_more turns (turn ∷ []) p g.safe) (chain_on Turns first server new turns turn g.run taken.server) kept_more (more_replies turn turns v.replies p.gone g.replies) durable_here soon
+      changed = grown (turns ++ turn ∷ []) change new v (v.replies ++ reply_in turn) p (safe_more turns (turn ∷ []) p g.safe) (chain_on Turns first server new turns turn g.run taken.server) kept_more stand_here (more_replies turn turns v.replies p.gone g.replies) durable_here soon
 
       pub maybe_changed : Along (turns ++ turn ∷ []) p (on_store (append_failed change) ∷ [])
-      maybe_changed = maybe_grown (turns ++ turn ∷ []) change new v (v.replies ++ reply_in turn) p (safe_more turns (turn ∷ []) p g.safe) (chain_on Turns first server new turns turn g.run taken.server) kept_more (more_replies turn turns v.replies p.gone g.replies) durable_here soon
+      maybe_changed = maybe_grown (turns ++ turn ∷ []) change new v (v.replies ++ reply_in turn) p (safe_more turns (turn ∷ []) p g.safe) (chain_on Turns first server new turns turn g.run taken.server) kept_more stand_here (more_replies turn turns v.replies p.gone g.replies) durable_here soon
 
   changed_so : (turn : Turn) (change : Option Change) (turns : List Turn) (server new : ServerValue) (v : WaitingValue) (soon : new.last ≤ v.durable + reach) (p : Past) → Takes server (record { turn = turn; change = change }) new → Good turns server v p
       → Goes (turns ++ turn ∷ []) new (behind (reply_in turn) (with_any change v)) p (map on_store (appends_of change))
@@ -340,7 +354,7 @@ module _ (first : ServerValue) where
   gone_good : (reply : ReplyValue) (turns : List Turn) (server : ServerValue) (w : WaitingValue) (replies : List ReplyValue) (p : Past) → w.replies ≡ reply ∷ replies → w.unsynced ≡ None → Good turns server w p
       → Good turns server (record w { replies = replies }) (one_gone reply.datagram p)
   gone_good reply turns server w replies p is clear g =
-      durable_good turns server (record w { replies = replies }) (one_gone reply.datagram p) g.run g.leases
+      durable_good turns server (record w { replies = replies }) (one_gone reply.datagram p) g.run g.leases g.stand
       (subst (λ (ds : List DatagramValue). LeavesOut ds (replies_in turns)) (ap (λ (rs : List ReplyValue). p.gone ++ datagrams rs) is ∙ sym (append_assoc p.gone (reply.datagram ∷ []) (datagrams replies))) g.replies)
       (g.all clear) g.times g.soon
 
@@ -360,6 +374,7 @@ module _ (first : ServerValue) where
   in_time life now turns server w p g = record {
     run = g.run;
     leases = g.leases;
+    stand = g.stand;
     safe = g.safe;
     replies =
         let part : LeavesOut (timely life now w.replies) w.replies = out_filtered (λ (reply : ReplyValue). nat_le now (reply.read + life)) w.replies in

@@ -3,8 +3,12 @@ use Rattle.std.proofs.Common.{◌≡◌, ℕ, ◌≤◌, length, Bool, List, [],
 use Rattle.std.specs.Prelude.{max, filter}
 use Rattle.std.proofs.Math.Nat.{le-max_left, le-max_right}
 use Rattle.nbt_lease.proofs.Common.{cases_Bool}
+use Rattle.nbt_lease.specs.Lease.{Leases, Rows}
 use Rattle.nbt_store.specs.declared.change.Change.{Change}
-use Rattle.nbt_store.specs.Changes.{at_of, last_of}
+use Rattle.nbt_store.specs.declared.change.Change.TheVariants.{Began}
+use Rattle.nbt_store.specs.declared.form.Form.TheVariants.{Three}
+use Rattle.nbt_store.specs.Lines.{AllStand}
+use Rattle.nbt_store.specs.Changes.{after, after_all, at_of, begun_all, last_of, Stands}
 use Rattle.nbt_keep.specs.Runs.{LeavesOut, nothing, not_this, this}
 
 -- ---- what was left out
@@ -90,3 +94,13 @@ last_on first changes change = let e = last_more first changes change in let l =
 
 pub last_at : (first : ℕ) (changes : List Change) (change : Change) → at_of change ≤ last_of first (changes ++ change ∷ [])
 last_at first changes change = let e = last_more first changes change in let l = le-max_right (last_of first changes) (at_of change) in omega (arith, e, l)
+
+-- ---- each change that moves or releases a lease has one
+
+pub stand_more : (changes : List Change) (change : Change) (leases : Leases) → AllStand Three changes leases → Stands change (after_all changes leases) → AllStand Three (changes ++ change ∷ []) leases
+stand_more [] change leases all one = (one, tt)
+stand_more (c ∷ cs) change leases all one = (all.0, stand_more cs change (after c leases) all.1 one)
+
+pub stand_begun : (at : ℕ) (rows : Rows) (leases : Leases) → AllStand Three (begun_all at rows) leases
+stand_begun at [] leases = tt
+stand_begun at (row ∷ rows) leases = (tt, stand_begun at rows (after (Began row.0 row.1 at) leases))

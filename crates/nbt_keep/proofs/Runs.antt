@@ -18,7 +18,7 @@ use Rattle.nbt_keep.specs.Waiting.{ReplyValue, WaitingValue, none_waits, IsClear
 use Rattle.nbt_keep.specs.Turning.{Took, Takes, TakesAny, with_reply, before_it, reached, reply_in, taking, receive_in, Passes, waits, at_once, all_leave, sync_fails, send_fails, Fails, receive_fails, reaching_fails, append_fails, leaving_fails, sending_fails}
 use Rattle.nbt_keep.specs.Runs.{Held, Seen, live_rows, Steps, takes_turn, port_fails, looks, renews, calls_in, turn_of, turns_in, stored_in, gone_in, last_after, last_left, LeavesOut, replies_in, IsEarlier}
 use Rattle.nbt_keep.specs.declared.fault.KeepFault.TheVariants as fault
-use Rattle.nbt_keep.proofs.Left.{last_from}
+use Rattle.nbt_keep.proofs.Left.{last_from, stand_begun}
 use Rattle.nbt_keep.proofs.Never.{never_so}
 use Rattle.nbt_keep.proofs.Crashes.{Past, last_by, by_call, by_calls, datagrams, May, Safe, Along, Good, Goes, along_more, along-append, durable_good, joined, and_then, took, left, part_left, maybe_changed, came_to, turn_soon, laid, not_laid, sent_at_once, lost_at_once}
 use Rattle.nbt_keep.proofs.Renewed.{renewed_kept}
@@ -56,7 +56,7 @@ module _ (first : ServerValue) (turns : List Turn) (server : ServerValue) (w : W
   pub store_failed : (life : ℕ) (t : Option Took) (calls : List DeviceCall) (readings : List ℕ) (new : ServerValue) (waiting : WaitingValue) → TakesAny server t new → Fails life w t fault.Store calls readings waiting → Along first (turns ++ turn_of t) p calls
   store_failed life _ _ _ new _ takes (reaching_fails now from octets calls past fails) =
       along_more first turns [] (on_port (came from octets) ∷ map on_store calls) p
-      (g.safe, tt, not_laid first turns server w p (Reached now) (λ leases. refl) g calls fails)
+      (g.safe, tt, not_laid first turns server w p (Reached now) (λ leases. refl) (λ leases. tt) g calls fails)
   store_failed life _ _ _ new _ takes (append_fails turn change) =
       let lines = flat_map lay_down (reached w.durable (moments_in turn)) in
       let a = came_to first turn turns server w p g in
@@ -72,14 +72,14 @@ module _ (first : ServerValue) (turns : List Turn) (server : ServerValue) (w : W
   looked_so day at clear onward =
       let cleared : laid_down (Looked day at) w ≡ none_waits at = ap (λ (rs : List ReplyValue). record { replies = rs; durable = max w.durable at; unsynced = None }) (ap (λ (v : WaitingValue). v.replies) clear) ∙ ap none_waits (greater w.durable at onward) in
       subst (λ (ts : List Turn). Goes first ts server (none_waits at) p (map on_store (lay_down (Looked day at)))) (sym (append-nil turns))
-      (subst (λ (v : WaitingValue). Goes first turns server v p (map on_store (lay_down (Looked day at)))) cleared (laid first turns server w p (Looked day at) (λ leases. refl) g))
+      (subst (λ (v : WaitingValue). Goes first turns server v p (map on_store (lay_down (Looked day at)))) cleared (laid first turns server w p (Looked day at) (λ leases. refl) (λ leases. tt) g))
     where
       greater : (a b : ℕ) → a ≤ b → max a b ≡ b
       greater a b l = omega arith
 
   -- the store fails at that
   pub look_failed : (day at : ℕ) (calls : List StoreCall) → LineFails (Looked day at) calls → Along first (turns ++ []) p (map on_store calls)
-  look_failed day at calls fails = along_more first turns [] (map on_store calls) p (not_laid first turns server w p (Looked day at) (λ leases. refl) g calls fails)
+  look_failed day at calls fails = along_more first turns [] (map on_store calls) p (not_laid first turns server w p (Looked day at) (λ leases. refl) (λ leases. tt) g calls fails)
 
   -- all is written anew
   pub renewed_so : (header : Header) → IsClear w → w.durable ≤ header.last → Goes first (turns ++ []) server (none_waits header.last) p (on_store (renewed header (live_rows server)) ∷ [])
@@ -88,7 +88,7 @@ module _ (first : ServerValue) (turns : List Turn) (server : ServerValue) (w : W
       let new : Past = record p { kept = kept_rows header.last rows; last = header.last } in
       let are = subst (λ (v : WaitingValue). LeavesOut (p.gone ++ datagrams v.replies) (replies_in turns)) clear g.replies in
       subst (λ (ts : List Turn). Goes first ts server (none_waits header.last) p (on_store (renewed header rows) ∷ [])) (sym (append-nil turns))
-      (let h = durable_good first turns server (none_waits header.last) new g.run (renewed_kept server (after_all p.kept.changes no_leases) header.last g.leases) are refl (last_from header.last (begun_all header.last rows)) (let s = g.soon in omega (arith, s, onward)) in
+      (let h = durable_good first turns server (none_waits header.last) new g.run (renewed_kept server (after_all p.kept.changes no_leases) header.last g.leases) (stand_begun header.last rows no_leases) are refl (last_from header.last (begun_all header.last rows)) (let s = g.soon in omega (arith, s, onward)) in
       record { along = (g.safe, tt, h.safe); good = h })
 
 -- what left at a call, and at those behind it

@@ -13,7 +13,7 @@ use Rattle.nbt_packet.specs.Spelling.{AreWritten}
 use Rattle.nbt_port.specs.PortCalls.{nothing_came, came, Chain}
 use Rattle.nbt_port.proofs.Chains.{chain-append}
 use Rattle.nbt_store.specs.Calls.{StoreCall, append_failed}
-use Rattle.nbt_store.specs.Changes.{at_of}
+use Rattle.nbt_store.specs.Changes.{at_of, Stands}
 use Rattle.nbt_store.specs.declared.change.Change.TheVariants.{Reached}
 use Rattle.nbt_server.specs.Serving.{ServerValue}
 use Rattle.nbt_server.specs.Outcomes.{has_reply}
@@ -31,12 +31,12 @@ use Rattle.nbt_keep.specs.Turning.{Took, Takes, changes_in, reply_in, is_unanswe
 use Rattle.nbt_keep.proofs.Told.{still_kept}
 
 module _ (old new : ServerValue) (now : ℕ) (from : Addr) (octets : List ℕ) (outcome : Outcome) (change : Option Change) (out : List ℕ) (h : ServerHandles old now from.ip octets outcome out new)
-    (keeps : (kept : Leases) → IsKept kept old → IsKept (after_any change kept) new) (time : IfSome change (λ c. at_of c ≡ new.last)) where
+    (keeps : (kept : Leases) → IsKept kept old → IsKept (after_any change kept) new) (time : IfSome change (λ c. at_of c ≡ new.last)) (stands : (kept : Leases) → IsKept kept old → IfSome change (λ c. Stands c kept)) where
   abbrev pub took_one : Took
   took_one = record { turn = is_taken now from octets h.reply; change = change }
 
   abbrev pub takes_one : Takes old took_one new
-  takes_one = record { server = takes now from octets h.reply new h.takes; keeps = keeps; time = time }
+  takes_one = record { server = takes now from octets h.reply new h.takes; keeps = keeps; time = time; stands = stands }
 
 -- a server refuses a datagram with one of two faults, and what is kept of it stays
 lost_so : (old new : ServerValue) (now : ℕ) (from : Addr) (octets : List ℕ) (fault : ServerFault) → IsErrOf {T = Outcome} (Err fault) faults.ClockBack ↔ (now < old.last)
@@ -53,7 +53,7 @@ pub takes_none : (old new : ServerValue) (now : ℕ) (from : Addr) (octets : Lis
     → (t : Takes old (record { turn = is_lost now from octets; change = None }) new) × IsLogged t.server None
 takes_none old new now from octets fault back unchanged memory =
     let lost = lost_so old new now from octets fault back unchanged memory in
-    (record { server = lost; keeps = still_kept fault old new now from.ip octets (λ e. unchanged (ap Err e)) (λ e. memory (ap Err e)); time = tt }, logged lost)
+    (record { server = lost; keeps = still_kept fault old new now from.ip octets (λ e. unchanged (ap Err e)) (λ e. memory (ap Err e)); time = tt; stands = λ kept k. tt }, logged lost)
 
 unanswered_is : (now : ℕ) (from : Addr) (octets : List ℕ) (r : Option MessageValue) (b : Bool) → b ≡ is_some r → is_unanswered (is_taken now from octets r) ≡ not (is_some (goes_where b from))
 unanswered_is now from octets None b is = ap (λ (x : Bool). not (is_some (goes_where x from))) (sym is)
@@ -75,8 +75,8 @@ module _ {S C : Type 0} (keeps : S → StoreCall → S → Type 0) (tells : C �
   pub taken_so : (outcome : Outcome) (change : Option Change) (out : List ℕ) (after : WaitingValue) (entry : Option Entry) → ServerHandles old now from.ip octets outcome out new → IsChange outcome new change → entry ≡ Some (entry_of from octets outcome)
       → Chain keeps t (appends_of change) u → after ≡ with_any change mid → HasTaken keeps tells s c old waiting (came from octets) entry out synced u d new after
   taken_so outcome change out after entry h changed is kept waits = record {
-    took = took_one old new now from octets outcome change out h (changed.keeps old now from.ip octets out h) changed.time;
-    takes = takes_one old new now from octets outcome change out h (changed.keeps old now from.ip octets out h) changed.time;
+    took = took_one old new now from octets outcome change out h (changed.keeps old now from.ip octets out h) changed.time (changed.stands old now from.ip octets out h);
+    takes = takes_one old new now from octets outcome change out h (changed.keeps old now from.ip octets out h) changed.time (changed.stands old now from.ip octets out h);
     logged = (outcome, h.done, is);
     changed = changed.some old now from.ip octets out h ∙ ap changes_in (sym is);
     received = refl;
@@ -92,7 +92,7 @@ module _ {S C : Type 0} (keeps : S → StoreCall → S → Type 0) (tells : C �
   pub not_kept : (outcome : Outcome) (change : Change) (out : List ℕ) (after : WaitingValue) → ServerHandles old now from.ip octets outcome out new → IsChange outcome new (Some change) → keeps t (append_failed change) u → after ≡ dropped (with_line change mid)
       → FailsToTake keeps tells s c old waiting from octets u d new after
   not_kept outcome change out after h changed did is =
-      in_appending (is_taken now from octets h.reply) change (takes_one old new now from octets outcome (Some change) out h (changed.keeps old now from.ip octets out h) changed.time) refl
+      in_appending (is_taken now from octets h.reply) change (takes_one old new now from octets outcome (Some change) out h (changed.keeps old now from.ip octets out h) changed.time (changed.stands old now from.ip octets out h)) refl
       (chain-append keeps s t u (flat_map lay_down (reached waiting.durable (now ∷ []))) (append_failed change ∷ []) reached_did (u, did, refl)) (d, told, refl) (is ∙ ap (λ (w : WaitingValue). dropped (with_line change w)) mid_is)
 
   pub lost_one : (fault : ServerFault) (out : List ℕ) → IsErrOf {T = Outcome} (Err fault) faults.ClockBack ↔ (now < old.last) → (IsErrOf {T = Outcome} (Err fault) faults.ClockBack → new ≡ old)
@@ -116,7 +116,7 @@ module _ {S C : Type 0} (keeps : S → StoreCall → S → Type 0) (tells : C �
 pub idle_one : {S C : Type 0} (keeps : S → StoreCall → S → Type 0) (tells : C → ℕ → C → Type 0) (s : S) (c : C) (old : ServerValue) (waiting : WaitingValue) (out : List ℕ) → HasTaken keeps tells s c old waiting nothing_came None out false s c old waiting
 idle_one keeps tells s c old waiting out = record {
   took = record { turn = is_empty; change = None };
-  takes = record { server = passes; keeps = λ kept k. k; time = tt };
+  takes = record { server = passes; keeps = λ kept k. k; time = tt; stands = λ kept k. tt };
   logged = refl;
   changed = refl;
   received = refl;

@@ -1,6 +1,6 @@
 -- What the server did with a datagram, and the change that it is.
 use Rattle.std.proofs.Common.{◌≡◌, ℕ, ◌<◌, ◌≤◌, false, not, List, [], ◌∷◌, ◌++◌, Option, Some, None, Ok, Err, refl, sym, ap, ◌∙◌, subst, ⊎_elim, arith}
-use Rattle.std.specs.Prelude.{nat_eq, is_some, IfSome}
+use Rattle.std.specs.Prelude.{suc, Any, nat_eq, is_some, IfSome}
 use Rattle.std.proofs.lemmas.Bool.{false≢true}
 use Rattle.nbt_lease.specs.declared.lease.Lease.{Lease}
 use Rattle.nbt_lease.specs.declared.lease.Grant.{Grant}
@@ -27,10 +27,10 @@ use Rattle.nbt_server.specs.declared.outcome.Outcome.{Outcome}
 use Rattle.nbt_server.specs.declared.outcome.Outcome.TheVariants as did
 use Rattle.nbt_store.specs.declared.change.Change.{Change}
 use Rattle.nbt_store.specs.declared.change.Change.TheVariants.{Began, Moved, Released as Gone}
-use Rattle.nbt_store.specs.Changes.{without, with_end, after, at_of}
+use Rattle.nbt_store.specs.Changes.{without, with_end, after, at_of, Stands}
 use Rattle.nbt_keep.specs.Changing.{IsKept, after_any, changes_leases, IsChange}
 use Rattle.nbt_keep.specs.Inner.Telling.{lease_of, Tells}
-use Rattle.nbt_keep.proofs.Kept.{began_live, began_apart, released_live, moved_live, moved_apart, apart_filtered, live_later}
+use Rattle.nbt_keep.proofs.Kept.{Among, among, began_live, began_apart, released_live, moved_live, moved_apart, apart_filtered, live_later}
 
 -- ---- what is kept has these leases at a time
 
@@ -207,6 +207,66 @@ time_told now leases (did.Silent name) (Some c) tells = absurd cc
 time_told now leases did.ForNodes (Some c) tells = absurd cc
 time_told now leases did.NoMessage (Some c) tells = absurd cc
 
+-- ---- a change that moves or releases a lease has one
+
+any_in : (addr : ℕ) (before : List Lease) (lease : Lease) (behind : List Lease) → lease.addr ≡ addr → Any (λ (l : Lease). l.addr ≡ addr) (before ++ lease ∷ behind)
+any_in addr [] lease behind own = (0, lease, omega arith, refl, own)
+any_in addr (x ∷ before) lease behind own = let h = any_in addr before lease behind own in (suc h.0, h.1, omega (arith, h.2), h.3, h.4)
+
+any_kept : (now addr : ℕ) (kept before : List Lease) (lease : Lease) (behind : List Lease) → filter (is_live now) kept ≡ before ++ lease ∷ behind → lease.addr ≡ addr → Any (λ (l : Lease). l.addr ≡ addr) kept
+any_kept now addr kept before lease behind is own =
+    let a : Among now kept before lease behind = among now kept before lease behind is in
+    subst (Any (λ (l : Lease). l.addr ≡ addr)) (sym a.is) (any_in addr a.front lease a.back own)
+
+stands_none : (kept : Leases) (change : Option Change) → change ≡ None → IfSome change (λ c. Stands c kept)
+stands_none kept None none = tt
+stands_none kept (Some c) none = absurd cc
+
+stands_granted : (config : ConfigValue) (now count : ℕ) (r : Registration) (leases list : List Lease) (grant : Grant) (old new kept : Leases) (change : Option Change) → GrantCase config now count (asked_in r) leases (Ok grant) list
+    → leases ≡ old r.name → Tells now new (grant_outcome (claim_in r) grant) change → KeptAt now kept old → IfSome change (λ c. Stands c kept)
+stands_granted config now count r leases list grant old new kept None (renews allowed before behind lease is own) here_is tells k = tt
+stands_granted config now count r leases list grant old new kept (Some c) (renews allowed before behind lease is own) here_is tells k =
+    subst (λ (d : Change). Stands d kept) (sym tells.5) (any_kept now r.addr (kept r.name) before lease behind (k.live r.name ∙ (sym here_is ∙ is)) own)
+stands_granted config now count r leases list grant old new kept None (begins allowed none room vacant) here_is tells k = tt
+stands_granted config now count r leases list grant old new kept (Some c) (begins allowed none room vacant) here_is tells k =
+    let same : c ≡ Began r.name (begun config now (asked_in r)) now = cc in subst (λ (d : Change). Stands d kept) (sym same) tt
+
+stands_ended : (now : ℕ) (c : Claim) (leases list : List Lease) (result : Released) (old new kept : Leases) (change : Option Change) → ReleaseCase c.addr leases result list → leases ≡ old c.name
+    → Tells now new (release_outcome leases c result) change → KeptAt now kept old → IfSome change (λ d. Stands d kept)
+stands_ended now c leases list result old new kept None (gone before behind lease is own) here_is tells k = tt
+stands_ended now c leases list result old new kept (Some d) (gone before behind lease is own) here_is tells k =
+    let same : d ≡ Gone c.name c.addr now = cc in
+    subst (λ (x : Change). Stands x kept) (sym same) (any_kept now c.addr (kept c.name) before lease behind (k.live c.name ∙ (sym here_is ∙ is)) own)
+stands_ended now c leases list result old new kept change (no_lease none) here_is tells k = stands_none kept change tells
+stands_ended now c leases list result old new kept change (of_others some none) here_is tells k = stands_none kept change tells
+
+stands_served : (table : TableValue) (now ip : ℕ) (m : MessageValue) (reply : Option MessageValue) (new kept : Leases) (change : Option Change) (does : Serves table now ip m reply new) → Tells now new (done_by does) change → KeptAt now kept (leases_at now table.rows)
+    → IfSome change (λ c. Stands c kept)
+stands_served table now ip m reply new kept change (registers _ r (Ok grant) _ asks own g) tells k =
+    stands_granted table.config now (live_count now table.rows) r (leases_at now table.rows r.name) g.leases grant (leases_at now table.rows) new kept change g.rule refl tells k
+stands_served table now ip m reply new kept change (registers _ r (Err fault) _ asks own g) tells k = stands_none kept change tells
+stands_served table now ip m reply new kept change (refuses _ r asks not_own) tells k = stands_none kept change tells
+stands_served table now ip m reply new kept change (refuses_overwrite r) tells k = stands_none kept change tells
+stands_served table now ip m reply new kept change (releases id name kind addr result _ own rel) tells k =
+    stands_ended now (claim name kind addr) (leases_at now table.rows name) rel.leases result (leases_at now table.rows) new kept change rel.rule refl tells k
+stands_served table now ip m reply new kept change (refuses_release id name kind addr not_own) tells k = stands_none kept change tells
+stands_served table now ip m reply new kept change (finds id name end least) tells k = stands_none kept change tells
+stands_served table now ip m reply new kept change (finds_none id name none) tells k = stands_none kept change tells
+stands_served table now ip m reply new kept change (passes_over _ nodes) tells k = stands_none kept change tells
+
+stands_octets : (server : ServerValue) (now ip : ℕ) (octets : List ℕ) (reply : Option MessageValue) (new kept : Leases) (outcome : Outcome) (change : Option Change) (does : ServesOctets server now ip octets reply new) → IsDone does outcome
+    → Tells now new outcome change → KeptAt now kept (leases_at now server.table.rows) → IfSome change (λ c. Stands c kept)
+stands_octets server now ip octets reply new kept outcome change (is_silent early) done tells k = stands_none kept change (silent_none octets now new outcome change done tells)
+stands_octets server now ip octets reply new kept outcome change (is_no_message none) done tells k = stands_none kept change (subst (λ (o : Outcome). Tells now new o change) done tells)
+stands_octets server now ip octets reply new kept outcome change (turns_away m speaks spelled over) done tells k = stands_none kept change (subst (λ (o : Outcome). Tells now new o change) done tells)
+stands_octets server now ip octets reply new kept outcome change (serves m _ _ speaks spelled room does) done tells k =
+    stands_served server.table now ip m reply new kept change does (subst (λ (o : Outcome). Tells now new o change) done tells) k
+
+stands_told : (old new : ServerValue) (now ip : ℕ) (octets out : List ℕ) (outcome : Outcome) (change : Option Change) → ServerHandles old now ip octets outcome out new → Tells now (leases_at now new.table.rows) outcome change
+    → (kept : Leases) → IsKept kept old → IfSome change (λ c. Stands c kept)
+stands_told old new now ip octets out outcome change h tells kept k =
+    stands_octets old now ip octets h.reply (leases_at now new.table.rows) kept outcome change h.takes.serves h.done tells (kept_at kept old now h.takes.goes_on k)
+
 -- ---- so that change, or none, is what it changed
 
 pub is_change : (outcome : Outcome) (new : ServerValue) (change : Option Change) → Tells new.last (leases_at new.last new.table.rows) outcome change → IsChange outcome new change
@@ -214,6 +274,7 @@ is_change outcome new change tells = record {
   keeps = λ old now ip octets out h. told old new now ip octets out outcome change h (tells_at now h.takes.last);
   some = λ old now ip octets out h. some_told old new now ip octets out outcome change h (tells_at now h.takes.last);
   time = time_told new.last (leases_at new.last new.table.rows) outcome change tells;
+  stands = λ old now ip octets out h. stands_told old new now ip octets out outcome change h (tells_at now h.takes.last);
 }
   where
     tells_at : (now : ℕ) → new.last ≡ now → Tells now (leases_at now new.table.rows) outcome change

@@ -10,6 +10,8 @@ use Rattle.nbt_port.proofs.Chains.{chain-append}
 use Rattle.nbt_server.specs.Serving.{ServerValue}
 use Rattle.nbt_store.specs.declared.change.Change.{Change}
 use Rattle.nbt_store.specs.declared.header.Header.{Header}
+use Rattle.nbt_store.specs.declared.form.Form.TheVariants.{Three}
+use Rattle.nbt_store.specs.Lines.{AllStand}
 use Rattle.nbt_store.specs.Calls.{StoreCall, renew_failed, Kept, after_call, after_calls, MayLeaveAfter, first_changes, new_leases}
 use Rattle.nbt_store.specs.Changes.{after_all, no_leases, begun_all, last_of, MayLeave}
 use Rattle.nbt_serve.specs.Serving.{Turn, Turns}
@@ -18,7 +20,7 @@ use Rattle.nbt_keep.specs.Devices.{DeviceCall, on_port, on_store}
 use Rattle.nbt_keep.specs.Waiting.{WaitingValue, durable_then}
 use Rattle.nbt_keep.specs.Turning.{Took, TakesAny}
 use Rattle.nbt_keep.specs.Runs.{Held, Seen, live_rows, Steps, takes_turn, port_fails, looks, renews, Ends, store_fails, look_fails, renewal_fails, Runs, goes_on, ends, calls_in, turn_of, turns_in, replies_in, stored_in, gone_in, last_after, last_left, Begins, LeavesOut, nothing, IsEarlier, NoReplyPrecedesItsChange, CrashLeavesAnEarlierServer, ServersGoByTurns}
-use Rattle.nbt_keep.proofs.Left.{out_front, last_from}
+use Rattle.nbt_keep.proofs.Left.{out_front, last_from, stand_begun}
 use Rattle.nbt_keep.proofs.Crashes.{Past, last_by, by_call, by_calls, datagrams, Along, Good, Goes, along_more, along-append, durable_good}
 use Rattle.nbt_keep.proofs.Runs.{gone_on, last_on_from, ran, store_failed, look_failed, crashed, sent_durable}
 use Rattle.nbt_keep.proofs.Renewed.{renewed_kept}
@@ -67,7 +69,7 @@ at_first kept last = record { kept = kept; last = last; gone = [] }
 
 begun_good : (kept : Kept) (last : ℕ) (old : Held) → Begins kept last old → Good old.server [] old.server old.waiting (at_first kept last)
 begun_good kept last old b =
-    durable_good old.server [] old.server old.waiting (at_first kept last) refl b.leases (subst (λ (w : WaitingValue). LeavesOut (datagrams w.replies) []) (sym b.clear) nothing) b.all
+    durable_good old.server [] old.server old.waiting (at_first kept last) refl b.leases b.stand (subst (λ (w : WaitingValue). LeavesOut (datagrams w.replies) []) (sym b.clear) nothing) b.all
     (subst (λ (u : Option ℕ). durable_then old.waiting.durable u ≤ last_of last kept.changes) (sym (ap (λ (w : WaitingValue). w.unsynced) b.clear)) b.durable) b.soon
 
 steps_go : (kept : Kept) (last : ℕ) (old new : Held) (seen : List Seen) → Begins kept last old → Chain Steps old seen new → Goes old.server (turns_in seen) new.server new.waiting (at_first kept last) (calls_in seen)
@@ -207,6 +209,7 @@ in_renewal kept last old mid seen header before behind left b chain onward (at_e
       turns_are = sym (append-nil (turns_in seen));
       run = g.good.run;
       leases = subst (λ (cs : List Change). IsKept (after_all cs no_leases) mid.server) (sym all) (renewed_kept mid.server (after_all (by_calls calls (at_first kept last)).kept.changes no_leases) header.last g.good.leases);
+      stand = subst (λ (cs : List Change). AllStand Three cs no_leases) (sym all) (stand_begun header.last rows no_leases);
       replies = out_front (gone_in calls) (datagrams mid.waiting.replies) (replies_in (turns_in seen))
           (subst (λ (ds : List DatagramValue). LeavesOut (ds ++ datagrams mid.waiting.replies) (replies_in (turns_in seen))) (gone_by_is calls (at_first kept last)) g.good.replies);
       soon = let l = last_from time left in let s = g.good.soon in omega (arith, l, s, onward, same);

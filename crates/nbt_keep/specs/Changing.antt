@@ -7,7 +7,7 @@ use Rattle.nbt_server.specs.Calls.{ServerHandles}
 use Rattle.nbt_server.specs.declared.outcome.Outcome.{Outcome}
 use Rattle.nbt_server.specs.declared.outcome.Outcome.TheVariants.{Granted, Renewed, Released}
 use Rattle.nbt_store.specs.declared.change.Change.{Change}
-use Rattle.nbt_store.specs.Changes.{after, at_of}
+use Rattle.nbt_store.specs.Changes.{after, at_of, Stands}
 
 -- What is kept has a server's leases: those that live at its last time, in their order. Leases that are over may stand
 -- among them, and no two of a name are of one address.
@@ -28,8 +28,10 @@ after_any None kept = kept
 after_any (Some change) kept = after change kept
 
 -- What a server changed in the leases by the datagram that it handled last, with this outcome, is this change, or nothing: whatever
--- was kept of its leases before has them after that, there is a change exactly where it changed a lease, and its time is the server's.
+-- was kept of its leases before has them after that, there is a change exactly where it changed a lease, its time is the server's, and
+-- a lease that moves or goes was there.
 pub record IsChange (outcome : Outcome) (new : ServerValue) (change : Option Change) : Type 0 where
   pub keeps : (old : ServerValue) (now ip : ℕ) (octets out : List ℕ) → ServerHandles old now ip octets outcome out new → (kept : Leases) → IsKept kept old → IsKept (after_any change kept) new
   pub some : (old : ServerValue) (now ip : ℕ) (octets out : List ℕ) → ServerHandles old now ip octets outcome out new → is_some change ≡ changes_leases outcome
   pub time : IfSome change (λ c. at_of c ≡ new.last)
+  pub stands : (old : ServerValue) (now ip : ℕ) (octets out : List ℕ) → ServerHandles old now ip octets outcome out new → (kept : Leases) → IsKept kept old → IfSome change (λ c. Stands c kept)

@@ -9,6 +9,8 @@ use Rattle.nbt_server.specs.Serving.{ServerValue}
 use Rattle.nbt_store.specs.declared.change.Change.{Change}
 use Rattle.nbt_store.specs.declared.header.Header.{Header}
 use Rattle.nbt_store.specs.declared.change.Change.TheVariants.{Looked}
+use Rattle.nbt_store.specs.Lines.{AllStand}
+use Rattle.nbt_store.specs.declared.form.Form.TheVariants.{Three}
 use Rattle.nbt_store.specs.Calls.{StoreCall, renewed, renew_failed, Kept, after_calls, MayLeaveAfter, first_changes, new_leases}
 use Rattle.nbt_store.specs.Changes.{after_all, no_leases, last_of}
 use Rattle.nbt_serve.specs.Serving.{Turn, Turns}
@@ -99,10 +101,11 @@ last_left last (new_leases before header rows calls_are left_is) = header.last
 
 -- ---- the laws
 
--- A run begins: no reply waits, the store has the server's live leases, all of them durable, and the server's time isn't more than 1,000 ms past
+-- A run begins: no reply waits, the store has the server's live leases, all of them durable and each that moved or went was there, and the server's time isn't more than 1,000 ms past
 -- the last durable one. `last` is LAST of the file's header.
 pub record Begins (kept : Kept) (last : ℕ) (held : Held) : Type 0 where
   pub leases : IsKept (after_all kept.changes no_leases) held.server
+  pub stand : AllStand Three kept.changes no_leases
   pub all : kept.durable ≡ length kept.changes
   pub clear : IsClear held.waiting
   pub durable : held.waiting.durable ≤ last_of last kept.changes
@@ -115,7 +118,7 @@ pub data LeavesOut {A : Type 0} : List A → List A → Type 0 where
   this : (y : A) (xs ys : List A) → LeavesOut xs ys → LeavesOut xs (y ∷ ys)
 
 -- The changes that are left have the live leases of the server after the first of these turns, whose time isn't more than 1,000 ms past
--- the last time of what is left; and the replies that left are replies of those turns, in their order: none of another turn has left.
+-- the last time of what is left; each lease that they move or release was there; and the replies that left are replies of those turns, in their order: none of another turn has left.
 pub record IsEarlier (first : ServerValue) (turns : List Turn) (gone : List DatagramValue) (last : ℕ) (left : List Change) : Type 0 where
   pub front : List Turn
   pub back : List Turn
@@ -123,6 +126,7 @@ pub record IsEarlier (first : ServerValue) (turns : List Turn) (gone : List Data
   pub turns_are : turns ≡ front ++ back
   pub run : Chain Turns first front server
   pub leases : IsKept (after_all left no_leases) server
+  pub stand : AllStand Three left no_leases
   pub replies : LeavesOut gone (replies_in front)
   pub soon : server.last ≤ last_of last left + reach
 

@@ -10,7 +10,7 @@ use Rattle.nbt_server.specs.Serving.{ServerValue}
 use Rattle.nbt_store.specs.declared.change.Change.{Change}
 use Rattle.nbt_store.specs.declared.change.Change.TheVariants.{Reached}
 use Rattle.nbt_store.specs.Calls.{StoreCall, appended, append_failed, sync_failed}
-use Rattle.nbt_store.specs.Changes.{at_of}
+use Rattle.nbt_store.specs.Changes.{at_of, Stands}
 use Rattle.nbt_serve.specs.Serving.{Turn, is_empty, is_taken, is_lost, moments_in, Turns, IsLogged}
 use Rattle.nbt_keep.specs.Changing.{IsKept, after_any, changes_leases}
 use Rattle.nbt_keep.specs.Devices.{DeviceCall, on_port, on_store, Devices, DeviceDoes}
@@ -23,11 +23,13 @@ pub record Took : Type 0 where
   pub turn : Turn
   pub change : Option Change
 
--- what it makes of a server, and of whatever is kept of the server's leases; a change has the server's time
+-- what it makes of a server, and of whatever is kept of the server's leases; a change has the server's time, and a lease that moves or goes
+-- was there
 pub record Takes (old : ServerValue) (took : Took) (new : ServerValue) : Type 0 where
   pub server : Turns old took.turn new
   pub keeps : (kept : Leases) → IsKept kept old → IsKept (after_any took.change kept) new
   pub time : IfSome took.change (λ change. at_of change ≡ new.last)
+  pub stands : (kept : Leases) → IsKept kept old → IfSome took.change (λ change. Stands change kept)
 
 -- whether it changed a lease, by what the log has of it
 abbrev pub changes_in : Option Entry → Bool

@@ -12,7 +12,8 @@ use nbt_store::Change;
 
 /// What a server changed in the leases by the datagram that it handled last, by what it did with it: that a lease began, that it has
 /// this expiry from now on, or that it was released; `None` if nothing. A renewal is such a change also where the expiry stays.
-/// Whatever was kept of the server's leases before has them after that change, and its time is the server's.
+/// Whatever was kept of the server's leases before has them after that change, and its time is the server's. A lease that moves or goes was
+/// there.
 pub fn change_of(server: &Server, outcome: &Outcome) -> Option<Change>
     ensures { IsChange outcome.now server.now result }
 {

@@ -29,7 +29,8 @@ pub fn no_reply_precedes_its_change()
 /// Whatever a crash leaves of what was kept, after any call of a run or within one that failed, has the live leases of an earlier
 /// server, and that one knows of each reply that has left. So the world's event of a server that resumes covers it: the datagrams
 /// behind are lost. The time of that server isn't more than 1,000 ms past the last time of what is left, of LAST and of the lines: a
-/// start that goes on a second past that one meets the premise `was.last ≤ now` of [`what_is_kept_resumes`].
+/// start that goes on a second past that one meets the premise `was.last ≤ now` of [`what_is_kept_resumes`]. Each lease that a line moves or
+/// releases is there by the lines before, so no such line is damage.
 pub fn a_crash_leaves_an_earlier_server()
     ensures { CrashLeavesAnEarlierServer }
 {}
