@@ -696,15 +696,12 @@ fn crash_at_each<R: Abort + AllocGlobal + time::Clock>(rt: &R, troubles: &[Troub
 
 #[test]
 fn what_left_before_a_crash_is_known_after_it(rt: HostRuntime) {
-    crash_at_each(
-        &rt,
-        &[
-            Trouble::Refused,
-            Trouble::Torn(0),
-            Trouble::Torn(20),
-            Trouble::Full(20),
-        ],
-    )
+    crash_at_each(&rt, &[Trouble::Refused, Trouble::Torn(0)])
+}
+
+#[test]
+fn what_left_before_a_crash_in_a_line_is_known_after_it(rt: HostRuntime) {
+    crash_at_each(&rt, &[Trouble::Torn(20), Trouble::Full(20)])
 }
 
 /// A server that stays up: what it is given, which moments its clock tells, and until when it goes on; up to which time all is durable at
