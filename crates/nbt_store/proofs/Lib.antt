@@ -7,3 +7,4 @@ pub mod Written
 pub mod Members
 pub mod Crashing
 pub mod Asking
+pub mod OneReading

@@ -7,6 +7,7 @@ ghost use Rattle.nbt_text.specs.Lines.{one_line};
 ghost use Rattle.nbt_store.specs.declared.change.Change.{Change};
 ghost use Rattle.nbt_store.specs.declared.header.Header.{Header};
 ghost use Rattle.nbt_store.specs.declared.disk_store.DiskStore.{DiskStore};
+ghost use Rattle.nbt_store.specs.declared.form.Form.{Form};
 ghost use Rattle.nbt_store.specs.declared.form.Form.TheVariants.{Three};
 ghost use Rattle.nbt_store.specs.Calls.{StoreCall, WentWell, kept_rows, MayLeaveAfter};
 ghost use Rattle.nbt_store.specs.Changes.{MayLeave, after_all};
@@ -26,6 +27,12 @@ use crate::disk::Disk;
 pub fn written_is_read()
     ensures file { (octets line : List ℕ) (h : Header) (cs : List Change) (c : Change) (sum next : ℕ) → IsFile octets Three h cs sum → IsClosed octets → IsLine line → IsRecord Three sum line c next → IsFile (octets ++ one_line line) Three h (cs ++ c ∷ []) next }
     ensures closed { (octets line : List ℕ) → IsClosed (octets ++ one_line line) }
+{}
+
+/// Octets are a file in one way at most: its form, its header, its changes and its last checksum are what they are. So what is loaded of
+/// what a crash left is what it left.
+pub fn a_file_has_one_reading()
+    ensures { (octets : List ℕ) (form other : Form) (h g : Header) (cs ds : List Change) (last end : ℕ) → IsFile octets form h cs last → IsFile octets other g ds end → (form ≡ other) × (h ≡ g) × (cs ≡ ds) × (last ≡ end) }
 {}
 
 /// What a crash leaves of a file, cut at any octet that is no earlier than what was synced, is a file of the first changes: of
