@@ -1,0 +1,54 @@
+-- A start that finds what a crash left of a run (our profile).
+use Rattle.std.specs.Prelude.{◌≡◌, ℕ, ◌+◌, ◌≤◌, List, ◌++◌, Some, None, IsTrue}
+use Rattle.std.specs.Borrow.{Bor}
+use Rattle.nbt_lease.specs.Config.{IsConfig}
+use Rattle.nbt_server.specs.Calls.{ServerResumes, limited}
+use Rattle.nbt_server.specs.Serving.{ServerValue}
+use Rattle.nbt_server.specs.Shifted.{shifted_server}
+use Rattle.nbt_store.specs.Calls.{Kept, MayLeaveAfter}
+use Rattle.nbt_store.specs.Changes.{last_of}
+use Rattle.nbt_store.specs.Lines.{IsFile}
+use Rattle.nbt_store.specs.Silence.{is_same_clock}
+use Rattle.nbt_store.specs.Times.{first_times, times_after_all}
+use Rattle.nbt_store.specs.declared.change.Change.{Change}
+use Rattle.nbt_store.specs.declared.form.Form.TheVariants.{Three}
+use Rattle.nbt_store.specs.declared.header.Header.{Header}
+use Rattle.nbt_keep.specs.Devices.{DeviceCall}
+use Rattle.nbt_keep.specs.Runs.{Begins, Held, IsEarlier, Runs, Seen, calls_in, gone_in, last_left, stored_in, turns_in}
+use Rattle.nbt_resume.specs.Beginning.{BeginsAs}
+use Rattle.nbt_resume.specs.declared.beginning.Begun.{Begun}
+use Rattle.nbt_resume.specs.declared.resuming.Found.{Found}
+
+-- What a start finds are octets that a crash left: a file of these changes, whose header has this last time, and the start of the server
+-- that ran. It has the limits of that server.
+pub record FindsLeft (ran : ServerValue) (last : ℕ) (left : List Change) (f : Found) : Type 0 where
+  pub octets : Bor (List ℕ)
+  pub header : Header
+  pub end : ℕ
+  pub kept : f.kept ≡ Some octets
+  pub file : IsFile octets.now Three header left end
+  pub last_is : header.last ≡ last
+  pub start_is : header.start ≡ ran.start
+  pub config_is : f.config ≡ ran.table.config
+
+-- Where the clock of the file goes on, in its own boot, it hasn't gone back: the server serves from no earlier than the time of that
+-- server's last datagram, which is what the same clock read then.
+abbrev pub HasNotGoneBack : {ran : ServerValue} {last : ℕ} {left : List Change} {f : Found} → FindsLeft ran last left f → (was : ServerValue) → Begun → Type 0
+HasNotGoneBack {left = left} {f = f} found was b = IsTrue (is_same_clock found.header (times_after_all left (first_times found.header)) f.seen) → was.last ≤ b.server.last
+
+-- The server that begins is that one, resumed with all of its times so much later. At the start its clock reads no less than the last time
+-- of what was left, and it serves from no earlier than that on. That clock is the machine's, as much ahead as the header of its own file
+-- says.
+pub record ResumesLater (was : ServerValue) (last : ℕ) (left : List Change) (f : Found) (b : Begun) : Type 0 where
+  pub shift : ℕ
+  pub resumes : ServerResumes (shifted_server shift was) b.server.last (limited was.client_rows b.server)
+  pub onward : last_of last left + shift ≤ b.reads
+  pub machine : b.reads ≡ f.seen.monotonic + b.header.ahead
+  pub serves : b.reads ≤ b.server.last
+
+-- Whatever a crash leaves of a run, a start that finds it and goes on resumes an earlier server of that run.
+abbrev pub StartResumesAnEarlierServer : Type 0
+StartResumesAnEarlierServer = (kept : Kept) (last : ℕ) (old new : Held) (seen : List Seen) → Begins kept last old → Runs old seen new → IsConfig old.server.table.config
+    → (before behind : List DeviceCall) (left : List Change) → calls_in seen ≡ before ++ behind → (may : MayLeaveAfter kept (stored_in before) left)
+    → (f : Found) (b : Begun) → (found : FindsLeft old.server (last_left last may) left f) → BeginsAs f b → b.reason ≡ None
+    → (e : IsEarlier old.server (turns_in seen) (gone_in before) (last_left last may) left) × (HasNotGoneBack found e.server b → ResumesLater e.server (last_left last may) left f b)
