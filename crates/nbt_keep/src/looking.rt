@@ -6,24 +6,21 @@ ghost use Rattle.nbt_store.specs.Calls.{StoreCall, renewing};
 ghost use Rattle.nbt_store.specs.declared.change.Change.TheVariants.{Looked};
 ghost use Rattle.nbt_keep.specs.Waiting.{none_waits, with_line, dropped, lay_down, laid_down, LineFails};
 ghost use Rattle.nbt_keep.specs.Runs.{live_rows};
-ghost use Rattle.nbt_keep.specs.Staying.{goes_beyond, stays_behind, is_line_due, header_at, LooksAfter, FailsToLook};
+ghost use Rattle.nbt_keep.specs.Staying.{is_line_due, header_at, LooksAfter, FailsToLook};
 
 use crate::waiting::Waiting;
 use nbt_lease::{Lease, Moment};
 use nbt_name::Name;
 use nbt_port::Clock;
 use nbt_server::Server;
-use nbt_store::{Broken, Change, Header, Store};
+use nbt_store::{Broken, Change, Header, Store, bears_out};
 use std::alloc::AllocError;
-
-/// How far the time of day may go apart from the server's clock, in milliseconds, beside a thousandth of what that one goes on by (our profile).
-const APART: u128 = 200;
 
 /// Looks after the file at a moment, where no reply waits, and the moment isn't before the last durable time. It reads the time of
 /// day. Where the file has several times as many lines as leases with which it was written, it writes the server's live leases anew;
 /// where memory is refused for that, the next look tries again. Else a line says what both clocks tell, and becomes durable, where a
-/// quarter of the longest lease passed since the last durable time, or the two went apart by more than 200 ms and a thousandth since
-/// the pair of the header. Of what is written last the header has the moment and the time of day.
+/// quarter of the longest lease passed since the last durable time, or the time of day doesn't bear the moment out
+/// since the pair of the header, as [`bears_out`] says. Of what is written last the header has the moment and the time of day.
 /// Refused with `Broken` if the store fails. `rows` is a buffer.
 pub(crate) fn look_after<S: Store, D: Clock>(
     store: &mut S,
@@ -111,19 +108,7 @@ fn is_line_due(header: &Header, durable: u64, at: Moment, time: Moment) -> bool
     ensures { result ≡ is_line_due header.now durable at time }
 {
     u128::from(durable) + 250 * u128::from(header.longest) <= u128::from(at.get())
-        || went_apart(header, at, time)
-}
-
-/// Whether the time of day and the server's clock went apart since the pair of the header.
-fn went_apart(header: &Header, at: Moment, time: Moment) -> bool
-    ensures { result ≡ (goes_beyond header.now at time || stays_behind header.now at time) }
-{
-    let last = u128::from(header.last);
-    let day = u128::from(header.day);
-    let at = u128::from(at.get());
-    let time = u128::from(time.get());
-    1000 * day + 1001 * at + 1000 * APART < 1000 * time + 1001 * last
-        || 1000 * time + 999 * last + 1000 * APART < 1000 * day + 999 * at
+        || !bears_out(header.last, header.day, at.get(), time.get())
 }
 
 /// Lists the live leases of a server, in place of what `rows` has. Refused where it is out of memory: `rows` may then be anything.

@@ -33,7 +33,7 @@ pub use header::Header;
 pub use memory_disk::{MemoryDisk, Trouble};
 pub use reading::{Loaded, load, load_header};
 pub use sealing::checksum;
-pub use silence::{Onward, Seen, Silence, why_silent};
+pub use silence::{Onward, Seen, Silence, bears_out, why_silent};
 pub use store::{Broken, Store};
 pub use syncs::Syncs;
 pub use system_disk::{SystemDisk, this_boot};

@@ -152,19 +152,20 @@ fn is_same_clock(header: &Header, times: &Times, seen: &Seen<'_>) -> bool
     let reads = seen.monotonic.get().saturating_add(header.ahead);
     header.boot.octets() == seen.boot.octets()
         && times.last <= reads
-        && (reads <= LAST && bears_out(times, reads, seen.day.get()))
+        && (reads <= LAST && bears_out(times.seen, times.day, reads, seen.day.get()))
 }
 
-/// Whether the server's clock and the time of day went on by the same, within 200 ms and a thousandth, since both were read last.
-fn bears_out(times: &Times, reads: u64, day: u64) -> bool
-    ensures { result ≡ bears_it_out times.now.seen times.now.day reads day }
+/// Whether a clock and the time of day went on by the same from one reading of both to another, within 200 ms and a thousandth (our
+/// profile). Times are milliseconds.
+pub fn bears_out(time: u64, day: u64, new_time: u64, new_day: u64) -> bool
+    ensures { result ≡ bears_it_out time day new_time new_day }
 {
-    let then = u128::from(times.seen);
-    let then_day = u128::from(times.day);
-    let now = u128::from(reads);
-    let now_day = u128::from(day);
-    1000 * now_day + 1001 * then <= 1000 * then_day + 1001 * now + 1000 * SLACK
-        && 1000 * now + 1001 * then_day <= 1000 * then + 1001 * now_day + 1000 * SLACK
+    let time = u128::from(time);
+    let day = u128::from(day);
+    let new_time = u128::from(new_time);
+    let new_day = u128::from(new_day);
+    1000 * new_day + 1001 * time <= 1000 * day + 1001 * new_time + 1000 * SLACK
+        && 1000 * new_time + 1001 * day <= 1000 * time + 1001 * new_day + 1000 * SLACK
 }
 
 /// How much time passed since the last time of the file, as the time of day shows it.
