@@ -74,9 +74,8 @@ module _ {P S C : Type 0} (does : P → PortCall → P → Type 0) (keeps : S �
   timely_is mid_is later_is = later_is ∙ ap (λ (w : WaitingValue). record w { replies = timely life now w.replies }) mid_is
 
   pub all_left : Chain keeps s (syncs_of old.unsynced) t → mid ≡ all_durable old → tells c now d → later ≡ record mid { replies = timely life now mid.replies } → Chain does p (sends_of later.replies) q → new ≡ record later { replies = [] }
-      → (n : ℕ) × Calls (leaving life n old) × Chain tells c (n ∷ []) d × (new ≡ dropped (all_durable old))
+      → Calls (leaving life now old) × Chain tells c (now ∷ []) d × (new ≡ dropped (all_durable old))
   all_left kept mid_is told later_is did new_is = (
-    now,
     both does keeps p q s t (syncs_of old.unsynced) (sends_of (timely life now old.replies)) kept (subst (λ (w : WaitingValue). Chain does p (sends_of w.replies) q) (timely_is mid_is later_is) did),
     (d, told, refl),
     new_is ∙ ap (λ (w : WaitingValue). record w { replies = [] }) (timely_is mid_is later_is),

@@ -11,6 +11,8 @@ mod Never
 mod Leaving
 mod Taking
 mod Passed
+-- what a watcher is shown after a turn
+mod Shown
 -- what came of a look at the file
 mod Looked
 mod Stayed

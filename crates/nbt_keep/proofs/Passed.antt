@@ -39,20 +39,15 @@ module _ {P S C : Type 0} (does : P → PortCall → P → Type 0) (keeps : S �
   abbrev Calls : List DeviceCall → Type 0
   Calls calls = Chain (DeviceDoes does keeps) (record { port = p; store = s }) calls (record { port = q; store = s })
 
-  pub went_at_once : Chain does p (sends_of (reply_to read to octets)) q → (calls : List DeviceCall) × (readings : List ℕ) × PassesOn life (not (is_some to)) synced (reply_to read to octets) old calls readings old × Calls calls × Chain tells c readings c
-  went_at_once did = (map on_port (sends_of (reply_to read to octets)), [], goes at_once, by_port does keeps p q s (sends_of (reply_to read to octets)) did, refl)
+  pub went_at_once : Chain does p (sends_of (reply_to read to octets)) q → (calls : List DeviceCall) × (readings : List ℕ) × PassesOn life (not (is_some to)) synced (reply_to read to octets) old calls readings old × Calls calls × Chain tells c readings c × (readings ≡ [])
+  went_at_once did = (map on_port (sends_of (reply_to read to octets)), [], goes at_once, by_port does keeps p q s (sends_of (reply_to read to octets)) did, refl, refl)
 
-  lost_then : (why : KeepFault) → (lost : Addr) × (to ≡ Some lost) × (why ≡ fault.Port) × does p (send_failed lost octets) q
+  pub lost_then : (why : KeepFault) → (lost : Addr) × (to ≡ Some lost) × (why ≡ fault.Port) × does p (send_failed lost octets) q
       → (calls : List DeviceCall) × (readings : List ℕ) × PassingFails life (not (is_some to)) synced (reply_to read to octets) old why calls readings old × Calls calls × Chain tells c readings c
   lost_then why l =
       let lost : ReplyValue = record { read = read; datagram = record { addr = l.0; octets = octets } } in
       let one : reply_to read to octets ≡ lost ∷ [] = ap (λ (o : Option Addr). reply_to read o octets) l.1 in
       rw l.2 (on_port (send_failed l.0 octets) ∷ [], [], not_sent lost at_once one, (record { port = q; store = s }, (l.3, refl), refl), refl)
-
-  pub fails_at_once : {A : Type 0} (r : Result A KeepFault) → IfErr r (λ why. (lost : Addr) × (to ≡ Some lost) × (why ≡ fault.Port) × does p (send_failed lost octets) q)
-      → IfErr r (λ why. (calls : List DeviceCall) × (readings : List ℕ) × PassingFails life (not (is_some to)) synced (reply_to read to octets) old why calls readings old × Calls calls × Chain tells c readings c)
-  fails_at_once (Ok done) l = tt
-  fails_at_once (Err why) l = lost_then why l
 
 -- ---- a whole turn
 
@@ -152,9 +147,3 @@ pub room_failed : (life : ℕ) (idle synced : Bool) (replies : List ReplyValue) 
     → PassingFails life idle synced replies old why calls readings new → length new.replies < batch
 room_failed life idle synced replies old _ _ _ _ room few (not_sent lost now one) = room
 room_failed life idle synced replies old _ _ _ _ room few (not_left why calls readings new not due fails) = failed_room life (behind replies old) new why calls readings fails few
-
--- a failure, with what is known besides
-pub known_too : {A : Type 0} (X : KeepFault → List DeviceCall → List ℕ → Type 0) (Y : List DeviceCall → Type 0) (V : List ℕ → Type 0) (Z : Type 0) (r : Result A KeepFault) → Z → IfErr r (λ why. (calls : List DeviceCall) × (readings : List ℕ) × X why calls readings × Y calls × V readings)
-    → IfErr r (λ why. (calls : List DeviceCall) × (readings : List ℕ) × Z × X why calls readings × Y calls × V readings)
-known_too X Y V Z (Ok done) z l = tt
-known_too X Y V Z (Err why) z l = (l.0, l.1, z, l.2, l.3, l.4)

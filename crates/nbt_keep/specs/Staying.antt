@@ -1,11 +1,12 @@
 -- A server that keeps its leases, stays up, and is watched (our profile).
-use Rattle.std.specs.Prelude.{◌≡◌, ℕ, ◌+◌, ◌*◌, ◌<◌, ◌≤◌, Bool, true, false, ◌||◌, nat_le, nat_lt, List, Option}
+use Rattle.std.specs.Prelude.{◌≡◌, ℕ, ◌+◌, ◌*◌, ◌<◌, ◌≤◌, Bool, true, false, not, ◌||◌, nat_le, List, Option}
 use Rattle.nbt_port.specs.PortCalls.{PortCall, Chain}
 use Rattle.nbt_port.specs.Until.{IsOver}
 use Rattle.nbt_port.specs.declared.fault.Fault.{Fault}
 use Rattle.nbt_port.specs.declared.fault.Fault.TheVariants as f
 use Rattle.nbt_server.specs.Serving.{ServerValue}
 use Rattle.nbt_store.specs.Calls.{StoreCall, renewed, renew_failed}
+use Rattle.nbt_store.specs.Silence.{bears_out}
 use Rattle.nbt_store.specs.declared.change.Change.TheVariants.{Looked}
 use Rattle.nbt_store.specs.declared.header.Header.{Header}
 use Rattle.nbt_nbns.specs.Watching.{Sight}
@@ -13,16 +14,17 @@ use Rattle.nbt_nbns.specs.declared.staying.Shown.{Shown}
 use Rattle.nbt_keep.specs.Waiting.{WaitingValue, none_waits, IsClear, with_line, dropped, lay_down, LineFails}
 use Rattle.nbt_keep.specs.Turning.{Keeping, KeepsTurn, BreaksKeeping}
 use Rattle.nbt_keep.specs.Runs.{live_rows}
+use Rattle.nbt_keep.specs.Teller.{TellerValue, Tells}
 use Rattle.nbt_keep.specs.declared.fault.KeepFault.{KeepFault}
 use Rattle.nbt_keep.specs.declared.fault.KeepFault.TheVariants as fault
 
--- a server that keeps its leases, the header of the file that has them, the clock of the time of day, what watches the server, and
--- what is printed
+-- a server that keeps its leases, the header of the file that has them, the clock of the time of day, what watches the server and isn't shown
+-- yet, and what is printed
 pub record Staying (P S C D V : Type 0) : Type 0 where
   pub keeping : Keeping P S C
   pub header : Header
   pub day : D
-  pub watcher : V
+  pub teller : TellerValue V
   pub text : Option (List ℕ)
 
 -- ---- the file is looked after
@@ -38,25 +40,14 @@ pub record Desk (S D : Type 0) : Type 0 where
 abbrev pub header_at : Header → (moment time : ℕ) → Header
 header_at header moment time = record header { last = moment; day = time }
 
--- so many milliseconds the time of day may go apart from the server's clock, beside a thousandth of what that one goes on by
-abbrev pub apart_most : ℕ
-apart_most = 200
-
--- Since the pair of the header the time of day went on by more than the server's clock did, or by less: by more than 200 ms and a
--- thousandth.
-abbrev pub goes_beyond : Header → (moment time : ℕ) → Bool
-goes_beyond header moment time = nat_lt (1000 * header.day + 1001 * moment + 1000 * apart_most) (1000 * time + 1001 * header.last)
-
-abbrev pub stays_behind : Header → (moment time : ℕ) → Bool
-stays_behind header moment time = nat_lt (1000 * time + 999 * header.last + 1000 * apart_most) (1000 * header.day + 999 * moment)
-
 -- a quarter of the longest lease, in milliseconds
 abbrev pub quarter : (longest : ℕ) → ℕ
 quarter longest = 250 * longest
 
--- Whether a line of both clocks is due: a quarter of the longest lease passed since the durable time, or the clocks went apart.
+-- Whether a line of both clocks is due: a quarter of the longest lease passed since the durable time, or the two went apart since the pair of
+-- the header, so that a start wouldn't go on by the same clock.
 abbrev pub is_line_due : Header → (durable moment time : ℕ) → Bool
-is_line_due header durable moment time = nat_le (durable + quarter header.longest) moment || (goes_beyond header moment time || stays_behind header moment time)
+is_line_due header durable moment time = nat_le (durable + quarter header.longest) moment || not (bears_out header.last header.day moment time)
 
 -- The file is looked after at a moment, where no reply waits and the moment isn't before the durable time: the time of day is read. Where
 -- the file is long, the live leases are written anew, but for want of memory; where a line of both clocks is due, it is appended, and
@@ -86,13 +77,15 @@ abbrev pub after_look : {P S C D V : Type 0} → Staying P S C D V → Desk S D
 after_look new = record { store = new.keeping.store; day = new.day; header = new.header; waiting = new.keeping.waiting }
 
 module _ {P S C D V : Type 0} (does : P → PortCall → P → Type 0) (failures : P → ℕ) (keeps : S → StoreCall → S → Type 0) (tells : C → ℕ → C → Type 0) (days : D → ℕ → D → Type 0) (sees : Sight V) where
-  -- A turn goes well, the clock is read after it, and the watcher is shown the turn, with how many calls of the port failed by then.
+  -- A turn goes well, the clock is read after it, and the watcher is shown the turns whose replies have left, with how many calls of the port
+  -- failed by then.
   pub record ShowsKeeping (old : Staying P S C D V) (shown : Shown) (mid : Keeping P S C) (new : Staying P S C D V) : Type 0 where
     pub turn_clock : C
-    pub turn : KeepsTurn does keeps tells old.keeping shown.entry (record mid { clock = turn_clock })
+    pub left : Option ℕ
+    pub turn : KeepsTurn does keeps tells old.keeping shown.entry left (record mid { clock = turn_clock })
     pub now_told : tells turn_clock shown.at mid.clock
     pub failures_are : shown.health.failures ≡ failures mid.port
-    pub seen : sees old.watcher mid.server shown old.text new.watcher new.text
+    pub told : Tells sees mid.server mid.waiting left shown old.teller old.text new.teller new.text
 
   -- Then the file is looked after.
   pub record WatchesKeeping (old : Staying P S C D V) (shown : Shown) (new : Staying P S C D V) : Type 0 where

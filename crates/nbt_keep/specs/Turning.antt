@@ -1,6 +1,7 @@
 -- One turn of a server that keeps its leases (our profile).
 use Rattle.std.specs.Prelude.{◌≡◌, ℕ, ◌+◌, nat_le, nat_lt, Bool, true, false, not, ◌||◌, List, [], ◌∷◌, ◌++◌, length, map, filter, Option, Some, None, is_some, IfSome}
 use Rattle.std.specs.List.{flat_map}
+use Rattle.std.specs.Option.{option_to_list}
 use Rattle.nbt_name.specs.declared.addr.Addr.{Addr}
 use Rattle.nbt_lease.specs.Lease.{Leases}
 use Rattle.nbt_log.specs.declared.entry.Entry.{Entry}
@@ -145,8 +146,9 @@ pub record Keeping (P S C : Type 0) : Type 0 where
 abbrev pub devices_of : {P S C : Type 0} → Keeping P S C → Devices P S
 devices_of here = record { port = here.port; store = here.store }
 
+-- A turn: what the log has of it, and at which moment what waited left, if it did.
 pub record KeepsTurn {P S C : Type 0} (does : P → PortCall → P → Type 0) (keeps : S → StoreCall → S → Type 0) (tells : C → ℕ → C → Type 0)
-    (old : Keeping P S C) (entry : Option Entry) (new : Keeping P S C) : Type 0 where
+    (old : Keeping P S C) (entry : Option Entry) (left : Option ℕ) (new : Keeping P S C) : Type 0 where
   pub took : Took
   pub calls : List DeviceCall
   pub readings : List ℕ
@@ -156,6 +158,7 @@ pub record KeepsTurn {P S C : Type 0} (does : P → PortCall → P → Type 0) (
   pub passes : Passes new.server.table.config.life old.waiting took calls readings new.waiting
   pub devices_did : Chain (DeviceDoes does keeps) (devices_of old) calls (devices_of new)
   pub clock_told : Chain tells old.clock (moments_in took.turn ++ readings) new.clock
+  pub left_is : readings ≡ option_to_list left
 
 pub record BreaksKeeping {P S C : Type 0} (does : P → PortCall → P → Type 0) (keeps : S → StoreCall → S → Type 0) (tells : C → ℕ → C → Type 0)
     (why : KeepFault) (old new : Keeping P S C) : Type 0 where

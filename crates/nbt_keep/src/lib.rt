@@ -7,6 +7,7 @@ mod fault;
 pub mod laws;
 mod looking;
 mod staying;
+mod teller;
 mod turning;
 mod waiting;
 
@@ -14,5 +15,6 @@ pub use changing::change_of;
 pub use fault::KeepFault;
 pub use looking::list_live;
 pub use staying::keep_on;
+pub use teller::{Teller, Untold};
 pub use turning::keep_turn;
 pub use waiting::{BATCH, REACH, Reply, Waiting};

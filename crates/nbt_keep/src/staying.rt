@@ -11,6 +11,7 @@ ghost use Rattle.nbt_keep.specs.declared.fault.KeepFault.TheVariants as fault;
 
 use crate::fault::KeepFault;
 use crate::looking::look_after;
+use crate::teller::Teller;
 use crate::turning::keep_turn;
 use crate::waiting::Waiting;
 use arrayvec::ArrayVec;
@@ -27,8 +28,8 @@ use std::{io, time};
 
 /// The server goes through turns as [`crate::keep_turn`] has them until the moment `until`, if there is one, and no reply waits, and
 /// through 2^61 of them at most. It stays up when the port fails, as [`stay_up`] says. What changed at the port is said in `errors` after each turn.
-/// After one that went well the clock is read, the watcher is shown what the turn was, and where no reply waits the store is looked
-/// after: the live leases are written anew in place of all changes, where the file has several times as many lines as leases with
+/// After one that went well the clock is read. Where no reply waits then, the watcher is shown what the turns were whose replies have left since
+/// it was shown the last one, as [`Teller`] says, and the store is looked after: the live leases are written anew in place of all changes, where the file has several times as many lines as leases with
 /// which it was written; else a line says what the clock and `day` tell, where a quarter of the longest lease passed since the last
 /// durable time, or the two went apart. `header` is that of the file, and has the moment and the time of day of the last such writing or
 /// line afterwards; `waiting` has no reply at first, and all is durable up to LAST of the header.
@@ -52,7 +53,7 @@ pub fn keep_on<
     server: &mut Server,
     waiting: &mut Waiting,
     header: &mut Header,
-    watcher: &mut V,
+    teller: &mut Teller<V>,
     until: Option<Moment>,
     alloc: Global,
     machine: &M,
@@ -62,11 +63,11 @@ pub fn keep_on<
     requires failure_count { P.failures port.old ≤ 2 ^ 61 }
     requires room { length waiting.old.replies < batch }
     ensures ok { OnOk result (StaysUntil (WatchesOn P.does P.failures S.does C.tells D.tells V.sees until) (BreaksStaying P.does P.failures S.does C.tells D.tells V.sees fault.Port) (WatchesLast P.does P.failures S.does C.tells D.tells V.sees until) forever
-        (record { keeping = record { port = port.old; store = store.old; clock = clock.old; server = server.old; waiting = waiting.old }; header = header.old; day = day.old; watcher = watcher.old; text = W.contents writer.old })
-        (record { keeping = record { port = port.new; store = store.new; clock = clock.new; server = server.new; waiting = waiting.new }; header = header.new; day = day.new; watcher = watcher.new; text = W.contents writer.new })) }
+        (record { keeping = record { port = port.old; store = store.old; clock = clock.old; server = server.old; waiting = waiting.old }; header = header.old; day = day.old; teller = teller.old; text = W.contents writer.old })
+        (record { keeping = record { port = port.new; store = store.new; clock = clock.new; server = server.new; waiting = waiting.new }; header = header.new; day = day.new; teller = teller.new; text = W.contents writer.new })) }
     ensures err { IfErr result (λ why. EndsEarly (WatchesOn P.does P.failures S.does C.tells D.tells V.sees until) (BreaksStaying P.does P.failures S.does C.tells D.tells V.sees fault.Port) (CutsStaying P.does P.failures S.does C.tells D.tells V.sees) forever why
-        (record { keeping = record { port = port.old; store = store.old; clock = clock.old; server = server.old; waiting = waiting.old }; header = header.old; day = day.old; watcher = watcher.old; text = W.contents writer.old })
-        (record { keeping = record { port = port.new; store = store.new; clock = clock.new; server = server.new; waiting = waiting.new }; header = header.new; day = day.new; watcher = watcher.new; text = W.contents writer.new })) }
+        (record { keeping = record { port = port.old; store = store.old; clock = clock.old; server = server.old; waiting = waiting.old }; header = header.old; day = day.old; teller = teller.old; text = W.contents writer.old })
+        (record { keeping = record { port = port.new; store = store.new; clock = clock.new; server = server.new; waiting = waiting.new }; header = header.new; day = day.new; teller = teller.new; text = W.contents writer.new })) }
 {
     let mut rows = Vec::new(alloc);
     let shown = Shown {
@@ -82,7 +83,7 @@ pub fn keep_on<
         server,
         waiting,
         header,
-        watcher,
+        teller,
         until,
         writer,
         rows: &mut rows,
@@ -103,7 +104,7 @@ struct KeptTurn<'p, 't, 'c, 'd, 's, 'r, 'h, 'v, 'w, 'b, P, S, C, D, V, W> {
     server: &'s mut Server,
     waiting: &'r mut Waiting,
     header: &'h mut Header,
-    watcher: &'v mut V,
+    teller: &'v mut Teller<V>,
     until: Option<Moment>,
     writer: &'w mut W,
     rows: &'b mut Vec<(Name, Lease)>,
@@ -125,9 +126,9 @@ impl<P: Port, S: Store, C: Clock, D: Clock, V: Watcher, W: Write> Turn
 
     ghost Fixed = { Option ℕ × List ℕ };
 
-    ghost state = { λ t. record { keeping = record { port = t.port.now; store = t.store.now; clock = t.clock.now; server = t.server.now; waiting = t.waiting.now }; header = t.header.now; day = t.day.now; watcher = t.watcher.now; text = W.contents t.writer.now } };
+    ghost state = { λ t. record { keeping = record { port = t.port.now; store = t.store.now; clock = t.clock.now; server = t.server.now; waiting = t.waiting.now }; header = t.header.now; day = t.day.now; teller = t.teller.now; text = W.contents t.writer.now } };
 
-    ghost fixed = { λ t. (t.until, t.port.ghost_name ∷ t.store.ghost_name ∷ t.clock.ghost_name ∷ t.day.ghost_name ∷ t.server.ghost_name ∷ t.waiting.ghost_name ∷ t.header.ghost_name ∷ t.watcher.ghost_name ∷ t.writer.ghost_name ∷ []) };
+    ghost fixed = { λ t. (t.until, t.port.ghost_name ∷ t.store.ghost_name ∷ t.clock.ghost_name ∷ t.day.ghost_name ∷ t.server.ghost_name ∷ t.waiting.ghost_name ∷ t.header.ghost_name ∷ t.teller.ghost_name ∷ t.writer.ghost_name ∷ []) };
 
     ghost failures = { λ t. P.failures t.port.now };
 
@@ -140,7 +141,7 @@ impl<P: Port, S: Store, C: Clock, D: Clock, V: Watcher, W: Write> Turn
     ghost cuts = { λ _. CutsStaying P.does P.failures S.does C.tells D.tells V.sees };
 
     fn take<E: Write>(&mut self, errors: &mut E) -> Turned {
-        match turn_and_moment(
+        let left = match turn_and_moment(
             self.port,
             self.store,
             self.clock,
@@ -150,7 +151,7 @@ impl<P: Port, S: Store, C: Clock, D: Clock, V: Watcher, W: Write> Turn
             &mut self.reply,
             &mut self.shown,
         ) {
-            Ok(()) => {}
+            Ok(left) => left,
             Err(KeepFault::Port) => {
                 self.port.tell_changes(errors);
                 return Turned::Failed(self.port.cause());
@@ -159,10 +160,17 @@ impl<P: Port, S: Store, C: Clock, D: Clock, V: Watcher, W: Write> Turn
                 tell_store(self.store, errors);
                 return Turned::CutOff(Fault::Store);
             }
-        }
+        };
         self.port.tell_changes(errors);
-        self.watcher
-            .see(self.server, &self.shown, self.writer, errors);
+        let at = self.shown.at;
+        self.teller.tell(
+            self.server,
+            self.waiting,
+            left,
+            &mut self.shown,
+            self.writer,
+            errors,
+        );
         after_turn(
             self.store,
             self.day,
@@ -171,7 +179,7 @@ impl<P: Port, S: Store, C: Clock, D: Clock, V: Watcher, W: Write> Turn
             self.server,
             self.waiting,
             &self.until,
-            self.shown.at,
+            at,
             errors,
         )
     }
@@ -215,7 +223,7 @@ fn ending(until: &Option<Moment>, at: Moment, waiting: &Waiting) -> Turned
     }
 }
 
-/// One turn, and the moment after it: `shown` is what it was, where it went well.
+/// One turn, and the moment after it: `shown` is what it was, where it went well. Returns at which moment what waited left, if it did.
 fn turn_and_moment<P: Port, S: Store, C: Clock>(
     port: &mut P,
     store: &mut S,
@@ -225,11 +233,11 @@ fn turn_and_moment<P: Port, S: Store, C: Clock>(
     octets: &mut ArrayVec<u8, 2048>,
     reply: &mut ArrayVec<u8, 576>,
     shown: &mut Shown,
-) -> Result<(), KeepFault>
+) -> Result<Option<Moment>, KeepFault>
     requires failure_count { P.failures port.old < 2 ^ 62 }
     requires room { length waiting.old.replies < batch }
-    ensures ok { OnOk result ((turned : C) × KeepsTurn P.does S.does C.tells
-        (record { port = port.old; store = store.old; clock = clock.old; server = server.old; waiting = waiting.old }) shown.new.entry
+    ensures ok { IfOk result (λ left. (turned : C) × KeepsTurn P.does S.does C.tells
+        (record { port = port.old; store = store.old; clock = clock.old; server = server.old; waiting = waiting.old }) shown.new.entry left
         (record { port = port.new; store = store.new; clock = turned; server = server.new; waiting = waiting.new })
         × C.tells turned shown.new.at clock.new × (shown.new.health.failures ≡ P.failures port.new)) }
     ensures err { IfErr result (λ why. BreaksKeeping P.does S.does C.tells why
@@ -238,7 +246,7 @@ fn turn_and_moment<P: Port, S: Store, C: Clock>(
     ensures room { length waiting.new.replies < batch }
     ensures count { P.failures port.new ≤ P.failures port.old + 1 }
 {
-    keep_turn(
+    let left = keep_turn(
         port,
         clock,
         store,
@@ -250,7 +258,7 @@ fn turn_and_moment<P: Port, S: Store, C: Clock>(
     )?;
     shown.at = clock.now();
     shown.health = health_of(port, store);
-    Ok(())
+    Ok(left)
 }
 
 /// How the port and the store are.

@@ -16,6 +16,7 @@ use crate::changing::{change_of, changes_leases};
 use crate::fault::KeepFault;
 use crate::waiting::Waiting;
 use arrayvec::ArrayVec;
+use nbt_lease::Moment;
 use nbt_log::Entry;
 use nbt_name::Addr;
 use nbt_port::{Clock, Device, Port};
@@ -28,7 +29,8 @@ use nbt_store::{Broken, Store};
 /// Then all replies leave, where the turn has no reply, or all is durable, or 64 wait: changes that aren't durable first become
 /// so, the clock is read once more, and a reply is dropped whose request was read longer ago than LIFE. A reply before which none
 /// waits, in a turn in which the store does nothing, leaves as it is. `entry` is what the server did then; `None` where nothing came,
-/// and where the datagram was lost as [`nbt_serve::serve_turns`] says. `octets` and `reply` are buffers of the turn.
+/// and where the datagram was lost as [`nbt_serve::serve_turns`] says. `octets` and `reply` are buffers of the turn. Returns the moment at
+/// which what waited left, if it did.
 ///
 /// Refused with `Port` at a receive that fails, and at a send that fails: that reply is lost, and those behind it still wait.
 /// Refused with `Store` at an append or a sync that fails: all replies are dropped, and the caller must end the server. `entry` may
@@ -42,11 +44,11 @@ pub fn keep_turn<P: Port, C: Clock, S: Store>(
     octets: &mut ArrayVec<u8, 2048>,
     reply: &mut ArrayVec<u8, 576>,
     entry: &mut Option<Entry>,
-) -> Result<(), KeepFault>
+) -> Result<Option<Moment>, KeepFault>
     requires failure_count { P.failures port.old < 2 ^ 62 }
     requires room { length waiting.old.replies < batch }
-    ensures ok { OnOk result (KeepsTurn P.does S.does C.tells
-        (record { port = port.old; store = store.old; clock = clock.old; server = server.old; waiting = waiting.old }) entry.new
+    ensures ok { IfOk result (λ left. KeepsTurn P.does S.does C.tells
+        (record { port = port.old; store = store.old; clock = clock.old; server = server.old; waiting = waiting.old }) entry.new left
         (record { port = port.new; store = store.new; clock = clock.new; server = server.new; waiting = waiting.new })) }
     ensures err { IfErr result (λ why. BreaksKeeping P.does S.does C.tells why
         (record { port = port.old; store = store.old; clock = clock.old; server = server.old; waiting = waiting.old })
@@ -66,7 +68,7 @@ pub fn keep_turn<P: Port, C: Clock, S: Store>(
         entry,
     )?;
     match waiting.pass(goes_to(entry), reply, synced, server, port, store, clock) {
-        Ok(()) => Ok(()),
+        Ok(left) => Ok(left),
         Err(why) => Err(why),
     }
 }

@@ -2,6 +2,7 @@
 
 ghost use Rattle.std.specs.Prelude.{◌≡◌, ◌<◌, ◌≤◌, ◌+◌, ◌^◌, ◌↔◌, ◌||◌, ◌++◌, ◌∷◌, [], ℕ, List, Bool, true, false, not, nat_le, nat_lt, length, map, Some, is_some, IfOk, OnOk, OnErr, IfErr, IsTrue};
 ghost use Rattle.std.specs.List.{flat_map};
+ghost use Rattle.std.specs.Option.{option_to_list};
 ghost use Rattle.std.specs.VecDeque.{deque_capacity};
 ghost use Rattle.nbt_name.specs.declared.addr.Addr.{Addr as Address};
 ghost use Rattle.nbt_port.specs.PortCalls.{CountsFailure, Chain, send_failed};
@@ -184,7 +185,8 @@ impl Waiting {
 
     /// The reply of a turn, if there is one, leaves or waits behind those that wait. All of them leave as [`Waiting::leave`] has it,
     /// with the same refusals, where there is none, or all is durable, or as many wait as may. Where none waits, all is durable and
-    /// the turn had no sync, it is sent as it is, and never copied. Its request was read at the server's time.
+    /// the turn had no sync, it is sent as it is, and never copied. Its request was read at the server's time. Returns at which moment
+    /// what waited left, if it did.
     pub(crate) fn pass<P: Port, S: Store, C: Clock>(
         &mut self,
         to: Option<Addr>,
@@ -194,19 +196,22 @@ impl Waiting {
         port: &mut P,
         store: &mut S,
         clock: &mut C,
-    ) -> Result<(), KeepFault>
+    ) -> Result<Option<Moment>, KeepFault>
         requires failure_count { P.failures port.old < 2 ^ 62 }
         requires room { length self.old.replies < batch }
-        ensures ok { OnOk result ((calls : List DeviceCall) × (readings : List ℕ) × PassesOn server.now.table.config.life (not (is_some to)) synced (reply_to server.now.last to octets.now.items) self.old calls readings self.new
+        ensures ok { IfOk result (λ left. (calls : List DeviceCall) × (readings : List ℕ) × PassesOn server.now.table.config.life (not (is_some to)) synced (reply_to server.now.last to octets.now.items) self.old calls readings self.new
             × Chain (DeviceDoes P.does S.does) (record { port = port.old; store = store.old }) calls (record { port = port.new; store = store.new })
-            × Chain C.tells clock.old readings clock.new) }
+            × Chain C.tells clock.old readings clock.new × (readings ≡ option_to_list left)) }
         ensures err { IfErr result (λ why. (calls : List DeviceCall) × (readings : List ℕ) × PassingFails server.now.table.config.life (not (is_some to)) synced (reply_to server.now.last to octets.now.items) self.old why calls readings self.new
             × Chain (DeviceDoes P.does S.does) (record { port = port.old; store = store.old }) calls (record { port = port.new; store = store.new })
             × Chain C.tells clock.old readings clock.new) }
         ensures count { P.failures port.new ≤ P.failures port.old + 1 }
     {
         if self.goes_at_once(synced) {
-            return send_any(to, octets.as_slice(), port);
+            return match send_any(to, octets.as_slice(), port) {
+                Ok(()) => Ok(None),
+                Err(why) => Err(why),
+            };
         }
         self.put_any(to, octets, server.last());
         self.leave_where_due(to.is_none(), server.table().config(), port, store, clock)
@@ -220,7 +225,7 @@ impl Waiting {
     }
 
     /// All replies leave as [`Waiting::leave`] has it, with the same refusals, where the turn has no reply, or all is durable, or
-    /// as many wait as may.
+    /// as many wait as may. Returns at which moment, if they do.
     fn leave_where_due<P: Port, S: Store, C: Clock>(
         &mut self,
         unanswered: bool,
@@ -228,25 +233,27 @@ impl Waiting {
         port: &mut P,
         store: &mut S,
         clock: &mut C,
-    ) -> Result<(), KeepFault>
+    ) -> Result<Option<Moment>, KeepFault>
         requires failure_count { P.failures port.old < 2 ^ 62 }
-        ensures ok { OnOk result ((calls : List DeviceCall) × (readings : List ℕ) × Leaves limits.life unanswered self.old calls readings self.new
+        ensures ok { IfOk result (λ left. (calls : List DeviceCall) × (readings : List ℕ) × Leaves limits.life unanswered self.old calls readings self.new
             × Chain (DeviceDoes P.does S.does) (record { port = port.old; store = store.old }) calls (record { port = port.new; store = store.new })
-            × Chain C.tells clock.old readings clock.new) }
+            × Chain C.tells clock.old readings clock.new × (readings ≡ option_to_list left)) }
         ensures err { IfErr result (λ why. (calls : List DeviceCall) × (readings : List ℕ) × (is_due unanswered self.old ≡ true) × LeavingFails limits.life self.old why calls readings self.new
             × Chain (DeviceDoes P.does S.does) (record { port = port.old; store = store.old }) calls (record { port = port.new; store = store.new })
             × Chain C.tells clock.old readings clock.new) }
         ensures count { P.failures port.new ≤ P.failures port.old + 1 }
     {
-        if self.is_to_leave(unanswered) {
-            self.leave(limits, port, store, clock)
-        } else {
-            Ok(())
+        if !self.is_to_leave(unanswered) {
+            return Ok(None);
+        }
+        match self.leave(limits, port, store, clock) {
+            Ok(now) => Ok(Some(now)),
+            Err(why) => Err(why),
         }
     }
 
     /// All becomes durable, the clock is read, and then the replies leave, in order: those whose requests were read no longer before
-    /// than the life of a datagram. The others are dropped. Refused with `Store` if the store fails: the replies are dropped; with
+    /// than the life of a datagram. The others are dropped. Returns that moment. Refused with `Store` if the store fails: the replies are dropped; with
     /// `Port` at the first send that fails: the replies behind that one still wait.
     fn leave<P: Port, S: Store, C: Clock>(
         &mut self,
@@ -254,9 +261,9 @@ impl Waiting {
         port: &mut P,
         store: &mut S,
         clock: &mut C,
-    ) -> Result<(), KeepFault>
+    ) -> Result<Moment, KeepFault>
         requires failure_count { P.failures port.old < 2 ^ 62 }
-        ensures ok { OnOk result ((now : ℕ) × Chain (DeviceDoes P.does S.does) (record { port = port.old; store = store.old }) (leaving limits.life now self.old) (record { port = port.new; store = store.new })
+        ensures ok { IfOk result (λ now. Chain (DeviceDoes P.does S.does) (record { port = port.old; store = store.old }) (leaving limits.life now self.old) (record { port = port.new; store = store.new })
             × Chain C.tells clock.old (now ∷ []) clock.new × (self.new ≡ dropped (all_durable self.old))) }
         ensures err { IfErr result (λ why. (calls : List DeviceCall) × (readings : List ℕ) × LeavingFails limits.life self.old why calls readings self.new
             × Chain (DeviceDoes P.does S.does) (record { port = port.old; store = store.old }) calls (record { port = port.new; store = store.new })
@@ -264,9 +271,10 @@ impl Waiting {
         ensures count { P.failures port.new ≤ P.failures port.old + 1 }
     {
         self.sync(store)?;
-        self.drop_late(limits, clock.now());
+        let now = clock.now();
+        self.drop_late(limits, now);
         self.send_all(port)?;
-        Ok(())
+        Ok(now)
     }
 
     /// The replies are dropped that would leave too late at a moment: a datagram's life after their requests were read.

@@ -13,6 +13,7 @@ use Rattle.nbt_nbns.specs.declared.running.NbnsArguments.{NbnsArguments}
 use Rattle.nbt_state.specs.Inner.Standing.{staying_of}
 use Rattle.nbt_state.specs.Inner.Starting.{AreRead, Starts, StartsNot, first_kept, kept_of}
 use Rattle.nbt_state.specs.Running.{KeptNbns, BeginsKept, dates_of}
+use Rattle.nbt_keep.specs.Teller.{TellerValue, new_teller}
 use Rattle.nbt_keep.specs.Waiting.{WaitingValue, none_waits}
 use Rattle.nbt_state.specs.declared.arguments.StateFolder.{StateFolder}
 use Rattle.nbt_state.specs.declared.opening.Told.{Told}
@@ -30,10 +31,10 @@ are_read steady told day r = record {
   time_told = (refl, r.time_told.1);
 }
 
-pub is_first_kept : (a : NbnsArguments) (begun : Begun) (monotonic time : ℕ) (store : Bool) (clock day : ℕ) (waiting : WaitingValue) (journal : Journal ℕ FileValue)
-    → store ≡ false → clock ≡ monotonic → day ≡ time → waiting ≡ none_waits begun.header.last → journal ≡ new_journal a (dates_of begun time) 0 begun.start
-    → kept_of begun store clock day waiting journal a.rows_per_client ≡ first_kept a begun monotonic time
-is_first_kept a begun monotonic time store clock day waiting journal s c d w j = cc
+pub is_first_kept : (a : NbnsArguments) (begun : Begun) (monotonic time : ℕ) (store : Bool) (clock day : ℕ) (waiting : WaitingValue) (teller : TellerValue (Journal ℕ FileValue))
+    → store ≡ false → clock ≡ monotonic → day ≡ time → waiting ≡ none_waits begun.header.last → teller ≡ new_teller (new_journal a (dates_of begun time) 0 begun.start)
+    → kept_of begun store clock day waiting teller a.rows_per_client ≡ first_kept a begun monotonic time
+is_first_kept a begun monotonic time store clock day waiting teller s c d w j = cc
 
 -- a fault that says this says that
 pub if_err_weaker : {T E : Type 0} {P Q : E → Type 0} (r : Result T E) → ((e : E) → P e → Q e) → IfErr r P → IfErr r Q

@@ -23,6 +23,7 @@ use Rattle.nbt_state.specs.Folders.{FolderDoes}
 use Rattle.nbt_state.specs.Opening.{IsFoundHere}
 use Rattle.nbt_keep.specs.Runs.{live_rows}
 use Rattle.nbt_keep.specs.Staying.{Staying, WatchesOn, WatchesLast, BreaksStaying, CutsStaying}
+use Rattle.nbt_keep.specs.Teller.{new_teller}
 use Rattle.nbt_keep.specs.Waiting.{none_waits}
 use Rattle.nbt_state.specs.declared.opening.Told.{Told}
 use Rattle.nbt_state.specs.declared.arguments.ServerArguments.{ServerArguments}
@@ -44,7 +45,7 @@ at_first a begun monotonic time text = record {
   keeping = record { port = record { port = record { bind = a.bind; failures = 0 }; front = a.front }; store = false; clock = record { clock = monotonic; by = begun.header.ahead }; server = limited (Some a.rows_per_client) begun.server; waiting = none_waits begun.header.last };
   header = begun.header;
   day = time;
-  watcher = new_journal a (dates_of begun time) 0 begun.start;
+  teller = new_teller (new_journal a (dates_of begun time) 0 begun.start);
   text = text;
 }
 

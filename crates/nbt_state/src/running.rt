@@ -158,7 +158,7 @@ fn keep_to_its_end<
         &mut kept.server,
         &mut kept.waiting,
         &mut kept.header,
-        &mut kept.journal,
+        &mut kept.teller,
         until,
         alloc,
         machine,

@@ -4,6 +4,7 @@ ghost use Rattle.std.specs.Prelude.{◌≡◌, ◌⊎◌, ℕ, List, OnOk, IfOk,
 ghost use Rattle.std.specs.Io.KnownBytes.{Appends};
 ghost use Rattle.nbt_name.specs.declared.addr.Addr.{Addr};
 ghost use Rattle.nbt_nbns.specs.Running.{new_journal};
+ghost use Rattle.nbt_keep.specs.Teller.{new_teller};
 ghost use Rattle.nbt_state.specs.Begin.{IsBegin, manner_of};
 ghost use Rattle.nbt_state.specs.Running.{dates_of};
 ghost use Rattle.nbt_state.specs.Inner.Starting.{Starts, StartsNot, kept_of};
@@ -12,7 +13,7 @@ use crate::arguments::StateFolder;
 use crate::first_line::{Manner, manner_of, write_begin};
 use crate::folder::FolderStore;
 use crate::opening::{Clocks, Locked, open_store};
-use nbt_keep::Waiting;
+use nbt_keep::{Teller, Waiting};
 use nbt_lease::Moment;
 use nbt_log::Dates;
 use nbt_nbns::{FilePlace, Journal, NbnsArguments, journal_of};
@@ -42,8 +43,8 @@ pub(crate) struct KeptServer<S, C, D, V> {
     pub waiting: Waiting,
     /// The header of its file.
     pub header: Header,
-    /// What sees each turn.
-    pub journal: V,
+    /// What sees each turn, and what it isn't shown yet.
+    pub teller: Teller<V>,
 }
 
 /// Such a server over a machine.
@@ -78,7 +79,7 @@ pub(crate) fn start<'a, M: Net + time::Clock + Files<File = File>, W: Write, E: 
     let begun = locked.begin(machine, alloc, state, arguments.config, told, errors)?;
     let opened = open_store(locked, alloc, &begun, errors)?;
     let waiting = Waiting::new(alloc, begun.header.last)?;
-    let journal = tell_begin(
+    let teller = tell_begin(
         machine,
         alloc,
         arguments,
@@ -94,7 +95,7 @@ pub(crate) fn start<'a, M: Net + time::Clock + Files<File = File>, W: Write, E: 
         opened.store,
         clocks,
         waiting,
-        journal,
+        teller,
         arguments.rows_per_client,
     ))
 }
@@ -105,10 +106,10 @@ fn kept_of<'a, M: Net + time::Clock + Files>(
     store: FolderStore<'a, M>,
     clocks: Clocks<'a, M>,
     waiting: Waiting,
-    journal: MachineJournal<'a, M>,
+    teller: Teller<MachineJournal<'a, M>>,
     rows_per_client: u32,
 ) -> Started<'a, M>
-    ensures { result ≡ kept_of begun store.entry clocks.entry.steady clocks.entry.day waiting journal.entry rows_per_client }
+    ensures { result ≡ kept_of begun store.entry clocks.entry.steady clocks.entry.day waiting teller.entry rows_per_client }
 {
     let Clocks { steady, day, .. } = clocks;
     let Begun { server, header, .. } = begun;
@@ -124,11 +125,11 @@ fn kept_of<'a, M: Net + time::Clock + Files>(
         server,
         waiting,
         header,
-        journal,
+        teller,
     }
 }
 
-/// The journal of a server that begins so, at this time of the day, with so many leases: once it is there, the first line is printed,
+/// What sees the turns of a server that begins so, at this time of the day, with so many leases: once it is there, the first line is printed,
 /// and flushed. Refused as [`start`].
 fn tell_begin<'a, M: Net + time::Clock + Files, W: Write, E: Write>(
     machine: &'a M,
@@ -140,8 +141,8 @@ fn tell_begin<'a, M: Net + time::Clock + Files, W: Write, E: Write>(
     count: usize,
     writer: &mut W,
     errors: &mut E,
-) -> Result<MachineJournal<'a, M>, Fault>
-    ensures journal { IfOk result (λ journal. journal ≡ new_journal arguments.now (dates_of begun.now time) 0 begun.now.start) }
+) -> Result<Teller<MachineJournal<'a, M>>, Fault>
+    ensures teller { IfOk result (λ teller. teller ≡ new_teller (new_journal arguments.now (dates_of begun.now time) 0 begun.now.start)) }
     ensures line { OnOk result ((at : List Addr) × (line : List ℕ) × IsBegin at (manner_of arguments.now.config.longest begun.now.start begun.now.server.last (dates_of begun.now time) count begun.now.reason) line × Appends (W.contents writer.old) (W.contents writer.new) line) }
     ensures err { IfErr result (StartsNot (W.contents writer.old) (W.contents writer.new)) }
 {
@@ -151,11 +152,12 @@ fn tell_begin<'a, M: Net + time::Clock + Files, W: Write, E: Write>(
     };
     let day = MachineClock::new(machine);
     let journal = journal_of(machine, alloc, arguments, dates, day, begun.start, errors)?;
+    let teller = Teller::new(alloc, journal)?;
     let longest = arguments.config.longest();
     let speaks = begun.server.last();
     let manner = manner_of(longest, begun.start, speaks, &dates, count, begun.reason);
     print_begin(alloc, port, manner, writer, errors)?;
-    Ok(journal)
+    Ok(teller)
 }
 
 /// Prints where a server serves, and how it begins, and flushes. Refused: `Memory`, and then nothing is printed; `Output` where the

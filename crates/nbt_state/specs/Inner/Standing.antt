@@ -9,6 +9,6 @@ staying_of port kept text = record {
   keeping = record { port = port; store = kept.store; clock = kept.clock; server = kept.server; waiting = kept.waiting };
   header = kept.header;
   day = kept.day;
-  watcher = kept.journal;
+  teller = kept.teller;
   text = text;
 }

@@ -15,6 +15,7 @@ use Rattle.nbt_state.specs.Begin.{IsBegin, manner_of}
 use Rattle.nbt_state.specs.Opening.{IsFoundHere}
 use Rattle.nbt_state.specs.Running.{dates_of}
 use Rattle.nbt_keep.specs.Runs.{live_rows}
+use Rattle.nbt_keep.specs.Teller.{TellerValue, new_teller}
 use Rattle.nbt_keep.specs.Waiting.{WaitingValue, none_waits}
 use Rattle.nbt_state.specs.declared.arguments.StateFolder.{StateFolder}
 use Rattle.nbt_state.specs.declared.opening.Told.{Told}
@@ -30,21 +31,21 @@ pub record AreRead (steady : ℕ) (told : Told) (day : ℕ) : Type 0 where
   pub monotonic_told : SteadyTells SystemShows told.before told.monotonic steady
   pub time_told : MachineTells day_before told.time day
 
--- what goes on of a server that begins so, beside its port, with this store, these clocks and this journal: it limits its clients
-abbrev pub kept_of : Begun → (store : Bool) → (clock day : ℕ) → WaitingValue → Journal ℕ FileValue → (rows_per_client : ℕ) → KeptServer Bool (Ahead ℕ) ℕ (Journal ℕ FileValue)
-kept_of begun store clock day waiting journal rows_per_client = record {
+-- what goes on of a server that begins so, beside its port, with this store, these clocks and what sees its turns: it limits its clients
+abbrev pub kept_of : Begun → (store : Bool) → (clock day : ℕ) → WaitingValue → TellerValue (Journal ℕ FileValue) → (rows_per_client : ℕ) → KeptServer Bool (Ahead ℕ) ℕ (Journal ℕ FileValue)
+kept_of begun store clock day waiting teller rows_per_client = record {
   store = store;
   clock = record { clock = clock; by = begun.header.ahead };
   day = day;
   server = limited (Some rows_per_client) begun.server;
   waiting = waiting;
   header = begun.header;
-  journal = journal;
+  teller = teller;
 }
 
 -- what it is at first, at these times
 abbrev pub first_kept : NbnsArguments → Begun → (monotonic time : ℕ) → KeptServer Bool (Ahead ℕ) ℕ (Journal ℕ FileValue)
-first_kept a begun monotonic time = kept_of begun false monotonic time (none_waits begun.header.last) (new_journal a (dates_of begun time) 0 begun.start) a.rows_per_client
+first_kept a begun monotonic time = kept_of begun false monotonic time (none_waits begun.header.last) (new_teller (new_journal a (dates_of begun time) 0 begun.start)) a.rows_per_client
 
 -- The folder is locked, the clocks are read, a server begins with what is found, and the first line is printed.
 pub record Starts (a : NbnsArguments) (state : StateFolder) (old_text text : Option (List ℕ)) (kept : KeptServer Bool (Ahead ℕ) ℕ (Journal ℕ FileValue)) : Type 0 where

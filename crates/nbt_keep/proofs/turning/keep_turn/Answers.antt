@@ -60,6 +60,7 @@ returns-in-Ok-clause-ok g c =
           (subst (λ (xs : List ℕ). g.P.Port.does c.args.port.now (receiving (Ok c.in_ok-came.came) xs) q) (sym c.as_slice.ensures.value) c.in_ok-came.ensures.does) t.stored)
           l.3;
       clock_told = chain-append g.C.Clock.tells c.args.clock.now a.clock c.pass.new.clock (moments_in t.took.turn) l.1 t.clock_told l.4;
+      left_is = l.5;
     }
 
 pub returns-in-Err-clause-err : goal.returns-in-Err-clause-err

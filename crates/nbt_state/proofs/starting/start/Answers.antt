@@ -9,7 +9,7 @@ returns-clause-ok g c =
     let clocks = c.in_ok-clocks.clocks in
     let begun = c.in_ok-begun.begun in
     let opened = c.in_ok-opened.opened in
-    let line = c.in_ok-journal.ensures.line in
+    let line = c.in_ok-teller.ensures.line in
     let read = c.in_ok-clocks.ensures.ok in
     record {
       told = clocks.told;
@@ -20,8 +20,8 @@ returns-clause-ok g c =
       found = c.in_ok-begun.ensures.ok;
       is_first = rw (← c.in_ok-opened.ensures.count) line.2;
       printed = line.3;
-      kept_is = c.kept_of.ensures ∙ is_first_kept a begun clocks.told.monotonic clocks.told.time opened.store clocks.steady clocks.day c.in_ok-waiting.waiting c.in_ok-journal.journal
-          c.in_ok-opened.ensures.store read.monotonic_told.keeps read.time_told.0 c.in_ok-waiting.ensures c.in_ok-journal.ensures.journal;
+      kept_is = c.kept_of.ensures ∙ is_first_kept a begun clocks.told.monotonic clocks.told.time opened.store clocks.steady clocks.day c.in_ok-waiting.waiting c.in_ok-teller.teller
+          c.in_ok-opened.ensures.store read.monotonic_told.keeps read.time_told.0 c.in_ok-waiting.ensures c.in_ok-teller.ensures.teller;
     }
 
 pub returns-in_err-waiting-clause-err : goal.returns-in_err-waiting-clause-err
