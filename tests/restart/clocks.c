@@ -1,10 +1,10 @@
 /* Clocks, a boot and a lock as a script has them, for a program that this is loaded into before libc (LD_PRELOAD). The machine's own
  * clocks stay as they are.
  *
- * CLOCKS names a file of five numbers, of eight octets each, which the script may change while the program runs: how far the steady
+ * CLOCKS names a file of six numbers, of eight octets each, which the script may change while the program runs: how far the steady
  * clocks (monotonic, raw, and that of the time since boot) are ahead of the machine's, in milliseconds; how far the time of day is;
- * before which reading of a clock from now on the program stalls, 1 for the next one; for how many milliseconds; and by how many the
- * next lock is late. A stall and a late lock come once. BOOT_ID names a file that is read in the place of the boot's id.
+ * before which reading of a clock from now on the program stalls, 1 for the next one; for how many milliseconds; by how many the
+ * next lock is late; and for how many each sync of a file's octets lasts. A stall and a late lock come once. BOOT_ID names a file that is read in the place of the boot's id.
  */
 #define _GNU_SOURCE
 #include <dlfcn.h>
@@ -24,7 +24,7 @@
 
 static const char BOOT[] = "/proc/sys/kernel/random/boot_id";
 
-enum { STEADY, DAY, READING, STALL, LATE, COUNT };
+enum { STEADY, DAY, READING, STALL, LATE, SYNC, COUNT };
 
 static volatile int64_t *numbers;
 
@@ -78,6 +78,12 @@ int flock(int fd, int how)
     numbers[LATE] = 0;
     wait_for(late);
     return REAL(flock)(fd, how);
+}
+
+int fdatasync(int fd)
+{
+    wait_for(numbers[SYNC]);
+    return REAL(fdatasync)(fd);
 }
 
 int open(const char *path, int flags, ...)

@@ -10,7 +10,7 @@ import stat
 import time
 
 import leases
-from machines import LIFE, LONGEST, Host, is_kept, packets
+from machines import LIFE, LONGEST, SYNC, Host, is_kept, packets
 
 LOOK = LONGEST / 4  # seconds between two looks of a server that is idle
 SLACK = 3.0  # seconds within which a server that has to end does, beside a look
@@ -276,6 +276,25 @@ def lock(lab):
             yield "a file of somebody else in the place of the lock stays", "" if is_right else f"status {status}, after {line!r}"
 
 
+def log(lab):
+    """A log says that a name is granted once the reply has left: not while a sync lasts, nor of a reply that was dropped after it."""
+    machine, net, folder = lab.machine(), lab.network(), lab.folder()
+    server = lab.speaking(machine, f"{net}.1", folder, words=("--log",))
+    host = Host(f"{net}.2", f"{net}.1")
+    for name, sync, replies in (("FIRST", 0, True), ("FILER", 300, True), ("LATER", 1500, False), ("AGAIN", 0, True)):
+        machine.put(SYNC, sync)
+        host.send(lambda number: packets.request(number, packets.REGISTRATION, name, packets.UNIQUE, host.address, LONGEST))  # noqa: B023
+        early = host.reply(sync / 2000)
+        before = server.read()
+        reply = host.reply(3)
+        time.sleep(0.3)
+        after = server.read()
+        is_right = (not sync or not early and f" granted {name}#20 " not in before) and bool(early or reply) == replies == (f" granted {name}#20 " in after)
+        what = "a reply that is dropped after it" if not replies else "the reply"
+        yield f"a sync of {sync} ms: the log waits for {what}", "" if is_right else f"replies {early!r} and {reply!r}, a log {after!r}"
+    server.kill()
+
+
 def scenes(lab):
     """The scenes by their names: of each what is to be played, side by side."""
     moved = [(how, way) for how in MOVES for way in WAYS]
@@ -286,4 +305,5 @@ def scenes(lab):
         "idle": [lambda: list(idle(lab))],
         "reached": [lambda: [reached(lab)]],
         "older_version": [lambda: older_version(lab)],
+        "log": [lambda: list(log(lab))],
     }

@@ -22,8 +22,8 @@ import packets  # noqa: E402
 
 LIFE = "500ms"
 LONGEST = 30  # seconds: the least that is accepted
-STEADY, DAY, READING, STALL, LATE = range(5)  # the numbers of clocks.c
-NUMBERS = 8 * 5  # their octets
+STEADY, DAY, READING, STALL, LATE, SYNC = range(6)  # the numbers of clocks.c
+NUMBERS = 8 * 6  # their octets
 PACE = 0.02  # seconds between two requests of a rival
 SOON = 20.0  # for how many seconds at most a first line is waited for
 
@@ -74,10 +74,10 @@ class Machine:
 class Server:
     """A name server that keeps its leases in a folder, at an address of its own."""
 
-    def __init__(self, nbt, machine, address, folder, longest=LONGEST, umask=-1):
+    def __init__(self, nbt, machine, address, folder, longest=LONGEST, umask=-1, words=()):
         kept = ["--life", LIFE, "--longest", f"{longest}s", "--state", folder]
         around = machine.environment if machine else None
-        command = [nbt, "nbns", "--bind", address, *kept]
+        command = [nbt, "nbns", "--bind", address, *kept, *words]
         self.running = subprocess.Popen(command, stdout=subprocess.PIPE, stderr=subprocess.STDOUT, env=around, umask=umask)
         os.set_blocking(self.running.stdout.fileno(), False)
         self.said = b""
@@ -225,9 +225,9 @@ class Lab:
             self.servers.append(server)
         return server
 
-    def speaking(self, machine, address, folder):
+    def speaking(self, machine, address, folder, **limits):
         """A server over an empty folder, whose silence is over."""
-        server = self.serve(machine, address, folder)
+        server = self.serve(machine, address, folder, **limits)
         server.line()
         time.sleep(LONGEST + 0.3)
         return server

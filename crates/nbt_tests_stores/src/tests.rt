@@ -21,6 +21,7 @@ mod restarts;
 mod resuming;
 mod stage;
 mod store;
+mod telling;
 mod waiting;
 
 /// The sixteen octets of names: FRED's and TEAM's, filled with spaces.

@@ -4,7 +4,7 @@
 use super::expect::{expect, expect_eq, expect_eq_in, expect_in};
 use super::stage::{Scene, play_on};
 use arrayvec::ArrayVec;
-use nbt_keep::{BATCH, KeepFault, Waiting, keep_on, keep_turn};
+use nbt_keep::{BATCH, KeepFault, Teller, Waiting, keep_on, keep_turn};
 use nbt_lease::{Lease, Moment};
 use nbt_log::Dates;
 use nbt_name::{Addr, Name};
@@ -358,7 +358,7 @@ struct Stage<'a> {
 }
 
 /// The header of a server that starts at 0.
-fn header(rt: &impl Abort) -> Header {
+pub fn header(rt: &impl Abort) -> Header {
     let boot = Boot::new(b"boot").expect(rt, "a boot");
     Header::new(
         config(4096).expect(rt, "limits"),
@@ -388,7 +388,7 @@ fn turn<R: Abort>(
 ) -> Result<(), KeepFault> {
     expect(rt, stage.port.failures() < 1 << 62);
     expect(rt, stage.waiting.len() < BATCH);
-    keep_turn(
+    match keep_turn(
         stage.port,
         stage.clock,
         stage.store,
@@ -397,7 +397,10 @@ fn turn<R: Abort>(
         octets,
         &mut ArrayVec::new(),
         &mut None,
-    )
+    ) {
+        Ok(_left) => Ok(()),
+        Err(why) => Err(why),
+    }
 }
 
 fn expect_turns<R: Abort>(rt: &R, row: &Kept, stage: &mut Stage) {
@@ -752,7 +755,7 @@ fn stay<R: Abort + AllocGlobal + time::Clock>(
     until: u64,
 ) -> (Result<(), Fault>, Vec<u8>) {
     let until = Some(Moment::new(until).expect(rt, "a moment"));
-    let mut watcher = journal(rt);
+    let mut teller = Teller::new(rt.alloc(), journal(rt)).expect(rt, "a teller");
     let mut printed: Vec<u8> = Vec::new(rt.alloc());
     let mut errors: Vec<u8> = Vec::new(rt.alloc());
     expect(rt, stage.port.failures() <= 1 << 61);
@@ -765,7 +768,7 @@ fn stay<R: Abort + AllocGlobal + time::Clock>(
         stage.server,
         stage.waiting,
         header,
-        &mut watcher,
+        &mut teller,
         until,
         rt.alloc(),
         rt,
@@ -860,7 +863,7 @@ const STAYS: &[Stays] = &[
         until: 60_003,
         durable: 60_000,
         pair: (50_000, 1_000_000),
-        days: &[1_009_793],
+        days: &[1_009_794],
         trouble: None,
         came: Ok(()),
         calls: 5,
@@ -874,11 +877,11 @@ const STAYS: &[Stays] = &[
         until: 60_003,
         durable: 60_000,
         pair: (50_000, 1_000_000),
-        days: &[1_009_792],
+        days: &[1_009_793],
         trouble: None,
         came: Ok(()),
         calls: 7,
-        then: (60_003, 1_009_792),
+        then: (60_003, 1_009_793),
         errors: "",
     },
     Stays {
