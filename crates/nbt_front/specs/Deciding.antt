@@ -9,9 +9,11 @@ use Rattle.nbt_packet.specs.Message.{MessageValue, overwrite, release, query, re
 use Rattle.nbt_packet.specs.Spelling.{Spells}
 use Rattle.nbt_packet.specs.Text.{entry}
 use Rattle.nbt_lease.specs.Config.{granted}
+use Rattle.nbt_lease.specs.Lease.{Rows}
 use Rattle.nbt_server.specs.Serving.{AsksFor, refusal, refused_error, active_error}
 use Rattle.nbt_front.specs.FixedNames.{FixedNames, FixedValue, fixed_of}
 use Rattle.nbt_front.specs.Networks.{NetworkValue, IsAllowed}
+use Rattle.nbt_front.specs.Standing.{IsLeased}
 use Rattle.nbt_front.specs.declared.deciding.Decision.{Decision}
 use Rattle.nbt_front.specs.declared.deciding.Decision.TheVariants.{NotAllowed, FixedRefused, FixedConfirmed, FixedFound}
 
@@ -20,6 +22,14 @@ pub record FrontValue : Type 0 where
   pub allowed : List NetworkValue
   pub fixed : FixedNames
   pub longest : ℕ
+
+-- a front, and the leases that stand in the way of its fixed names
+pub record DeskValue : Type 0 where
+  pub front : FrontValue
+  pub kept : Rows
+
+abbrev pub desk_of : FrontValue → Rows → DeskValue
+desk_of front kept = record { front = front; kept = kept }
 
 -- A name is claimed by a registration, a refresh and an overwrite.
 pub data Claims : MessageValue → Registration → Type 0 where
@@ -32,35 +42,40 @@ pub record IsHolder (ip : ℕ) (kind : Kind) (addr : ℕ) (fixed : FixedValue) :
   pub kind_is : kind ≡ fixed.kind
   pub listed : Contains fixed.addrs addr
 
+-- The same, while no lease stands in the name's way.
+pub record MayHave (kept : Rows) (now ip : ℕ) (name : NameValue) (kind : Kind) (addr : ℕ) (fixed : FixedValue) : Type 0 where
+  pub holds : IsHolder ip kind addr fixed
+  pub free : ¬ IsLeased kept now name
+
 -- the entries of a name's addresses, in their order
 abbrev pub entries_of : FixedValue → List ℕ
 entries_of fixed = flat_map (λ addr. entry fixed.kind addr) fixed.addrs
 
--- What is decided of a message from the address `ip`, and the reply. A line for each rule: of a fixed name, and of a sender that may not
--- register.
-pub data Decides (front : FrontValue) (ip : ℕ) : MessageValue → Decision → MessageValue → Type 0 where
-  confirms : (m : MessageValue) (r : Registration) (fixed : FixedValue) → AsksFor m r → fixed_of front.fixed r.name ≡ Some fixed → IsHolder ip r.kind r.addr fixed
-      → Decides front ip m FixedConfirmed (registered 0 (record r { ttl = granted front.longest r.ttl }))
-  refuses : (m : MessageValue) (r : Registration) (fixed : FixedValue) → AsksFor m r → fixed_of front.fixed r.name ≡ Some fixed → ¬ IsHolder ip r.kind r.addr fixed
-      → Decides front ip m (FixedRefused r.name) (refusal active_error r)
-  refuses_overwrite : (r : Registration) (fixed : FixedValue) → fixed_of front.fixed r.name ≡ Some fixed
-      → Decides front ip (overwrite r) (FixedRefused r.name) (refusal active_error r)
-  confirms_release : (id : ℕ) (name : NameValue) (kind : Kind) (addr : ℕ) (fixed : FixedValue) → fixed_of front.fixed name ≡ Some fixed → IsHolder ip kind addr fixed
-      → Decides front ip (release id name kind addr) FixedConfirmed (released id 0 name kind addr)
-  refuses_release : (id : ℕ) (name : NameValue) (kind : Kind) (addr : ℕ) (fixed : FixedValue) → fixed_of front.fixed name ≡ Some fixed → ¬ IsHolder ip kind addr fixed
-      → Decides front ip (release id name kind addr) (FixedRefused name) (released id active_error name kind addr)
-  finds : (id : ℕ) (name : NameValue) (fixed : FixedValue) → fixed_of front.fixed name ≡ Some fixed
-      → Decides front ip (query id name) FixedFound (found id name front.longest (entries_of fixed) false)
-  turns_away : (m : MessageValue) (r : Registration) → Claims m r → fixed_of front.fixed r.name ≡ None → ¬ IsAllowed front.allowed ip
-      → Decides front ip m (NotAllowed r.name) (refusal refused_error r)
+-- What is decided of a message from the address `ip` at a moment, and the reply. A line for each rule: of a fixed name, and of a sender
+-- that may not register.
+pub data Decides (desk : DeskValue) (now ip : ℕ) : MessageValue → Decision → MessageValue → Type 0 where
+  confirms : (m : MessageValue) (r : Registration) (fixed : FixedValue) → AsksFor m r → fixed_of desk.front.fixed r.name ≡ Some fixed → MayHave desk.kept now ip r.name r.kind r.addr fixed
+      → Decides desk now ip m FixedConfirmed (registered 0 (record r { ttl = granted desk.front.longest r.ttl }))
+  refuses : (m : MessageValue) (r : Registration) (fixed : FixedValue) → AsksFor m r → fixed_of desk.front.fixed r.name ≡ Some fixed → ¬ MayHave desk.kept now ip r.name r.kind r.addr fixed
+      → Decides desk now ip m (FixedRefused r.name) (refusal active_error r)
+  refuses_overwrite : (r : Registration) (fixed : FixedValue) → fixed_of desk.front.fixed r.name ≡ Some fixed
+      → Decides desk now ip (overwrite r) (FixedRefused r.name) (refusal active_error r)
+  confirms_release : (id : ℕ) (name : NameValue) (kind : Kind) (addr : ℕ) (fixed : FixedValue) → fixed_of desk.front.fixed name ≡ Some fixed → ¬ IsLeased desk.kept now name → IsHolder ip kind addr fixed
+      → Decides desk now ip (release id name kind addr) FixedConfirmed (released id 0 name kind addr)
+  refuses_release : (id : ℕ) (name : NameValue) (kind : Kind) (addr : ℕ) (fixed : FixedValue) → fixed_of desk.front.fixed name ≡ Some fixed → ¬ IsLeased desk.kept now name → ¬ IsHolder ip kind addr fixed
+      → Decides desk now ip (release id name kind addr) (FixedRefused name) (released id active_error name kind addr)
+  finds : (id : ℕ) (name : NameValue) (fixed : FixedValue) → fixed_of desk.front.fixed name ≡ Some fixed → ¬ IsLeased desk.kept now name
+      → Decides desk now ip (query id name) FixedFound (found id name desk.front.longest (entries_of fixed) false)
+  turns_away : (m : MessageValue) (r : Registration) → Claims m r → fixed_of desk.front.fixed r.name ≡ None → ¬ IsAllowed desk.front.allowed ip
+      → Decides desk now ip m (NotAllowed r.name) (refusal refused_error r)
 
 -- nothing is decided of it
-abbrev pub Passes : FrontValue → (ip : ℕ) → MessageValue → Type 0
-Passes front ip m = (decision : Decision) (reply : MessageValue) → ¬ Decides front ip m decision reply
+abbrev pub Passes : DeskValue → (now ip : ℕ) → MessageValue → Type 0
+Passes desk now ip m = (decision : Decision) (reply : MessageValue) → ¬ Decides desk now ip m decision reply
 
 -- the same of the message that octets spell
-abbrev pub DecidesOctets : FrontValue → (ip : ℕ) → (octets : List ℕ) → Decision → MessageValue → Type 0
-DecidesOctets front ip octets decision reply = (m : MessageValue) × Spells octets m × Decides front ip m decision reply
+abbrev pub DecidesOctets : DeskValue → (now ip : ℕ) → (octets : List ℕ) → Decision → MessageValue → Type 0
+DecidesOctets desk now ip octets decision reply = (m : MessageValue) × Spells octets m × Decides desk now ip m decision reply
 
 -- ---- what that comes to
 
@@ -70,9 +85,10 @@ pub data IsAbout : MessageValue → NameValue → Type 0 where
   releases_it : (id : ℕ) (name : NameValue) (kind : Kind) (addr : ℕ) → IsAbout (release id name kind addr) name
   queries_it : (id : ℕ) (name : NameValue) → IsAbout (query id name) name
 
--- it is about a fixed name
-abbrev pub IsOfFixed : FrontValue → MessageValue → Type 0
-IsOfFixed front m = (name : NameValue) × IsAbout m name × (fixed : FixedValue) × (fixed_of front.fixed name ≡ Some fixed)
+-- It claims a fixed name, or it is about one in whose way no lease stands.
+pub data IsOfFixed (desk : DeskValue) (now : ℕ) : MessageValue → Type 0 where
+  claims_fixed : (m : MessageValue) (r : Registration) (fixed : FixedValue) → Claims m r → fixed_of desk.front.fixed r.name ≡ Some fixed → IsOfFixed desk now m
+  about_free : (m : MessageValue) (name : NameValue) (fixed : FixedValue) → IsAbout m name → fixed_of desk.front.fixed name ≡ Some fixed → ¬ IsLeased desk.kept now name → IsOfFixed desk now m
 
 -- it claims a name, and its sender may not register
 abbrev pub IsUnallowed : FrontValue → (ip : ℕ) → MessageValue → Type 0

@@ -5,3 +5,4 @@ pub mod FrontPort
 pub mod Inner
 pub mod Networks
 pub mod Numbers
+pub mod Standing

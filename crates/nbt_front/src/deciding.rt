@@ -3,14 +3,16 @@
 ghost use Rattle.std.specs.Prelude.{◌≡◌, ◌↔◌, ◌≤◌, ℕ, false, [], Some, None, IsTrue, IfSome, IfNone};
 ghost use Rattle.nbt_packet.specs.Message.{MessageValue, found, message_of, overwrite, query, registered, release, released};
 ghost use Rattle.nbt_packet.specs.Spelling.{AreWritten, Spells};
+ghost use Rattle.nbt_lease.specs.Lease.{Rows};
 ghost use Rattle.nbt_server.specs.Serving.{AsksFor};
 ghost use Rattle.nbt_front.specs.FixedNames.{fixed_of};
 ghost use Rattle.nbt_front.specs.Networks.{IsAllowed};
-ghost use Rattle.nbt_front.specs.Deciding.{Claims, Decides, entries_of, Passes};
+ghost use Rattle.nbt_front.specs.Deciding.{Claims, Decides, desk_of, entries_of, Passes};
 
 use crate::fixed::Fixed;
 use crate::names::FixedNames;
 use crate::network::{Network, is_in_any};
+use crate::standing::Standing;
 use arrayvec::ArrayVec;
 use nbt_lease::Config;
 use nbt_name::{Addr, Kind, Name};
@@ -28,7 +30,8 @@ const ACTIVE: u8 = 6;
 pub enum Decision {
     /// A claim of this name was refused, since its sender may not register (RCODE 5).
     NotAllowed(Name),
-    /// A claim or a release of this name was refused, since the name is fixed, and not the sender's (RCODE 6).
+    /// A claim or a release of this name was refused, since the name is fixed, and not the sender's; or a claim, since a lease stands in the
+    /// name's way (RCODE 6).
     FixedRefused(Name),
     /// A registration, a refresh or a release of a fixed name by one of its addresses was confirmed. It changes nothing.
     FixedConfirmed,
@@ -71,24 +74,32 @@ impl Front {
         self.fixed = fixed;
     }
 
-    /// What it decides of a datagram from an address, and in `reply` the reply; `None` where it leaves the datagram to the server, and
-    /// then `reply` is as it was.
+    /// The names that are fixed.
+    pub fn fixed(&self) -> &FixedNames
+        ensures { result.now ≡ self.now.fixed }
+    {
+        &self.fixed
+    }
+
+    /// What it decides of a datagram from an address, while these leases stand in the way of its names, and in `reply` the reply; `None`
+    /// where it leaves the datagram to the server, and then `reply` is as it was.
     pub fn decide(
         &self,
         from: Addr,
         octets: &[u8],
+        standing: &Standing<'_>,
         reply: &mut ArrayVec<u8, 576>,
     ) -> Option<Decision>
-        ensures decided { IfSome result (λ decision. (m : MessageValue) × (r : MessageValue) × Spells octets.now m × Decides self.now from.ip m decision r
-            × AreWritten (Some r) reply.new.items) }
-        ensures passed { IfNone result ((m : MessageValue) → Spells octets.now m → Passes self.now from.ip m) }
+        ensures decided { IfSome result (λ decision. (m : MessageValue) × (r : MessageValue) × Spells octets.now m
+            × Decides (desk_of self.now standing.now.rows.now) standing.now.at from.ip m decision r × AreWritten (Some r) reply.new.items) }
+        ensures passed { IfNone result ((m : MessageValue) → Spells octets.now m → Passes (desk_of self.now standing.now.rows.now) standing.now.at from.ip m) }
         ensures left { IfNone result (reply.new.items ≡ reply.old.items) }
     {
         if self.is_open() {
             return None;
         }
         let message = read(octets)?;
-        self.decide_message(from.ip, message, reply)
+        self.decide_message(from.ip, message, standing, reply)
     }
 
     /// Whether it has neither networks nor names, so that it decides nothing.
@@ -103,23 +114,24 @@ impl Front {
         &self,
         ip: u32,
         message: Message<'_>,
+        standing: &Standing<'_>,
         reply: &mut ArrayVec<u8, 576>,
     ) -> Option<Decision>
-        ensures decided { IfSome result (λ decision. (r : MessageValue) × Decides self.now ip (message_of message.entry) decision r × AreWritten (Some r) reply.new.items) }
-        ensures passed { IfNone result (Passes self.now ip (message_of message.entry)) }
+        ensures decided { IfSome result (λ decision. (r : MessageValue) × Decides (desk_of self.now standing.now.rows.now) standing.now.at ip (message_of message.entry) decision r × AreWritten (Some r) reply.new.items) }
+        ensures passed { IfNone result (Passes (desk_of self.now standing.now.rows.now) standing.now.at ip (message_of message.entry)) }
         ensures left { IfNone result (reply.new.items ≡ reply.old.items) }
     {
         match message {
-            Message::Registration(claim) => self.claim(ip, claim, reply),
-            Message::Refresh(claim) => self.claim(ip, claim, reply),
+            Message::Registration(claim) => self.claim(ip, claim, standing, reply),
+            Message::Refresh(claim) => self.claim(ip, claim, standing, reply),
             Message::Overwrite(claim) => self.overwrite(ip, claim, reply),
             Message::Release {
                 id,
                 name,
                 kind,
                 addr,
-            } => self.release(ip, id, name.to_name(), kind, addr, reply),
-            Message::Query { id, name } => self.find(id, name.to_name(), reply),
+            } => self.release(ip, id, name.to_name(), kind, addr, standing, reply),
+            Message::Query { id, name } => self.find(id, name.to_name(), standing, reply),
             _ => None,
         }
     }
@@ -129,17 +141,19 @@ impl Front {
         &self,
         ip: u32,
         claim: Registration<'_>,
+        standing: &Standing<'_>,
         reply: &mut ArrayVec<u8, 576>,
     ) -> Option<Decision>
-        ensures decided { IfSome result (λ decision. (m : MessageValue) → AsksFor m claim.entry → (r : MessageValue) × Decides self.now ip m decision r × AreWritten (Some r) reply.new.items) }
-        ensures passed { IfNone result ((m : MessageValue) → AsksFor m claim.entry → Passes self.now ip m) }
+        ensures decided { IfSome result (λ decision. (m : MessageValue) → AsksFor m claim.entry → (r : MessageValue) × Decides (desk_of self.now standing.now.rows.now) standing.now.at ip m decision r × AreWritten (Some r) reply.new.items) }
+        ensures passed { IfNone result ((m : MessageValue) → AsksFor m claim.entry → Passes (desk_of self.now standing.now.rows.now) standing.now.at ip m) }
         ensures left { IfNone result (reply.new.items ≡ reply.old.items) }
     {
         let name = claim.name.to_name();
         let Some(fixed) = self.fixed.get(&name) else {
             return self.turn_away(ip, claim, reply);
         };
-        if fixed.is_held_by(ip, claim.kind, claim.addr) {
+        let holds = fixed.is_held_by(ip, claim.kind, claim.addr);
+        if holds && !standing.has(&name) {
             let seconds = self.config.granted(claim.ttl);
             respond(claim, 0, seconds, reply);
             return Some(Decision::FixedConfirmed);
@@ -155,8 +169,8 @@ impl Front {
         claim: Registration<'_>,
         reply: &mut ArrayVec<u8, 576>,
     ) -> Option<Decision>
-        ensures decided { IfSome result (λ decision. (r : MessageValue) × Decides self.now ip (overwrite claim.entry) decision r × AreWritten (Some r) reply.new.items) }
-        ensures passed { IfNone result (Passes self.now ip (overwrite claim.entry)) }
+        ensures decided { (kept : Rows) (at : ℕ) → IfSome result (λ decision. (r : MessageValue) × Decides (desk_of self.now kept) at ip (overwrite claim.entry) decision r × AreWritten (Some r) reply.new.items) }
+        ensures passed { (kept : Rows) (at : ℕ) → IfNone result (Passes (desk_of self.now kept) at ip (overwrite claim.entry)) }
         ensures left { IfNone result (reply.new.items ≡ reply.old.items) }
     {
         let name = claim.name.to_name();
@@ -177,8 +191,8 @@ impl Front {
         reply: &mut ArrayVec<u8, 576>,
     ) -> Option<Decision>
         requires free { fixed_of self.now.fixed claim.name ≡ None }
-        ensures decided { IfSome result (λ decision. (m : MessageValue) → Claims m claim.entry → (r : MessageValue) × Decides self.now ip m decision r × AreWritten (Some r) reply.new.items) }
-        ensures passed { IfNone result ((m : MessageValue) → Claims m claim.entry → Passes self.now ip m) }
+        ensures decided { (kept : Rows) (at : ℕ) → IfSome result (λ decision. (m : MessageValue) → Claims m claim.entry → (r : MessageValue) × Decides (desk_of self.now kept) at ip m decision r × AreWritten (Some r) reply.new.items) }
+        ensures passed { (kept : Rows) (at : ℕ) → IfNone result ((m : MessageValue) → Claims m claim.entry → Passes (desk_of self.now kept) at ip m) }
         ensures left { IfNone result (reply.new.items ≡ reply.old.items) }
     {
         if self.allows(ip) {
@@ -195,7 +209,7 @@ impl Front {
         self.allowed.is_empty() || is_in_any(self.allowed.as_slice(), ip)
     }
 
-    /// Decides of a release.
+    /// Decides of a release. That of a name in whose way a lease stands is the server's.
     fn release(
         &self,
         ip: u32,
@@ -203,13 +217,17 @@ impl Front {
         name: Name,
         kind: Kind,
         addr: u32,
+        standing: &Standing<'_>,
         reply: &mut ArrayVec<u8, 576>,
     ) -> Option<Decision>
-        ensures decided { IfSome result (λ decision. (r : MessageValue) × Decides self.now ip (release id name kind addr) decision r × AreWritten (Some r) reply.new.items) }
-        ensures passed { IfNone result (Passes self.now ip (release id name kind addr)) }
+        ensures decided { IfSome result (λ decision. (r : MessageValue) × Decides (desk_of self.now standing.now.rows.now) standing.now.at ip (release id name kind addr) decision r × AreWritten (Some r) reply.new.items) }
+        ensures passed { IfNone result (Passes (desk_of self.now standing.now.rows.now) standing.now.at ip (release id name kind addr)) }
         ensures left { IfNone result (reply.new.items ≡ reply.old.items) }
     {
         let fixed = self.fixed.get(&name)?;
+        if standing.has(&name) {
+            return None;
+        }
         if fixed.is_held_by(ip, kind, addr) {
             respond_release(id, 0, &name, kind, addr, reply);
             return Some(Decision::FixedConfirmed);
@@ -218,13 +236,23 @@ impl Front {
         Some(Decision::FixedRefused(name))
     }
 
-    /// Answers a query for a fixed name with its addresses, which all fit, and the longest lease as their TTL.
-    fn find(&self, id: u16, name: Name, reply: &mut ArrayVec<u8, 576>) -> Option<Decision>
-        ensures decided { (ip : ℕ) → IfSome result (λ decision. (r : MessageValue) × Decides self.now ip (query id name) decision r × AreWritten (Some r) reply.new.items) }
-        ensures passed { (ip : ℕ) → IfNone result (Passes self.now ip (query id name)) }
+    /// Answers a query for a fixed name with its addresses, which all fit, and the longest lease as their TTL. That for a name in whose way
+    /// a lease stands is the server's.
+    fn find(
+        &self,
+        id: u16,
+        name: Name,
+        standing: &Standing<'_>,
+        reply: &mut ArrayVec<u8, 576>,
+    ) -> Option<Decision>
+        ensures decided { (ip : ℕ) → IfSome result (λ decision. (r : MessageValue) × Decides (desk_of self.now standing.now.rows.now) standing.now.at ip (query id name) decision r × AreWritten (Some r) reply.new.items) }
+        ensures passed { (ip : ℕ) → IfNone result (Passes (desk_of self.now standing.now.rows.now) standing.now.at ip (query id name)) }
         ensures left { IfNone result (reply.new.items ≡ reply.old.items) }
     {
         let fixed = self.fixed.get(&name)?;
+        if standing.has(&name) {
+            return None;
+        }
         respond_found(id, &name, self.config.longest(), fixed, reply);
         Some(Decision::FixedFound)
     }

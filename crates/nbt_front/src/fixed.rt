@@ -1,13 +1,16 @@
 //! What is fixed of a name.
 
-ghost use Rattle.std.specs.Prelude.{◌≡◌, ◌↔◌, ℕ, ◌<◌, ◌≤◌, Some, None, IsTrue, Contains, length, IfOk, IfErr};
+ghost use Rattle.std.specs.Prelude.{◌≡◌, ◌↔◌, ℕ, ◌<◌, ◌≤◌, not, nat_eq, Some, None, IsTrue, Contains, length, IfOk, IfErr};
+ghost use Rattle.std.specs.List.{list_any};
 ghost use Rattle.nbt_front.specs.Files.{IsBarred, Joins};
 ghost use Rattle.nbt_front.specs.Deciding.{IsHolder, entries_of};
 ghost use Rattle.nbt_front.specs.Numbers.{addrs_most};
+ghost use Rattle.nbt_front.specs.Standing.{are_group, is_in_the_way};
 
 use crate::fault::LineFault;
 use crate::line::FixedLine;
 use arrayvec::ArrayVec;
+use nbt_lease::Lease;
 use nbt_name::Kind;
 use nbt_packet::entry_octets;
 use std::marker::Model;
@@ -104,6 +107,20 @@ impl Fixed {
         addr == ip && kind == self.kind && self.has(addr)
     }
 
+    /// Whether a lease of its name stands in its way: one of its addresses is another one than the lease's, and not both are a group.
+    pub(crate) fn is_barred_by(&self, lease: &Lease) -> bool
+        ensures { result ≡ is_in_the_way (Some self.now) lease.now }
+    {
+        !are_group(self.kind, lease.kind) && self.has_other(lease.addr)
+    }
+
+    /// Whether one of its addresses is another one than this.
+    fn has_other(&self, addr: u32) -> bool
+        ensures { result ≡ list_any (λ other. not (nat_eq other addr)) self.now.addrs }
+    {
+        self.addrs.as_slice().iter().any(|other| *other != addr)
+    }
+
     /// The entries of its addresses, in their order (RFC 1002 section 4.2.13).
     pub(crate) fn entries(&self) -> ArrayVec<u8, ENTRIES_OCTETS>
         ensures { result.items ≡ entries_of self.now }
@@ -115,4 +132,11 @@ impl Fixed {
         }
         entries
     }
+}
+
+/// Whether both are a group.
+fn are_group(one: Kind, other: Kind) -> bool
+    ensures { result ≡ are_group one other }
+{
+    one == Kind::Group && other == Kind::Group
 }

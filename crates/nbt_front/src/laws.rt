@@ -1,9 +1,16 @@
 //! What holds of a front, whatever the code does: laws over the definitions alone; and that the code's numbers are theirs.
 
-ghost use Rattle.std.specs.Prelude.{◌≡◌, ◌⊎◌, ℕ, []};
-ghost use Rattle.nbt_packet.specs.Message.{MessageValue};
-ghost use Rattle.nbt_front.specs.Deciding.{Decides, FrontValue, IsOfFixed, IsUnallowed, Passes};
+ghost use Rattle.std.specs.Prelude.{◌≡◌, ◌⊎◌, ℕ, [], Some};
+ghost use Rattle.nbt_name.specs.Wire.{NameValue};
+ghost use Rattle.nbt_name.specs.declared.addr.Kind.{Kind};
+ghost use Rattle.nbt_packet.specs.Message.{MessageValue, query, release};
+ghost use Rattle.nbt_packet.specs.declared.message.Registration.{Registration};
+ghost use Rattle.nbt_server.specs.Serving.{active_error, refusal};
+ghost use Rattle.nbt_front.specs.Deciding.{Claims, Decides, DeskValue, IsOfFixed, IsUnallowed, Passes};
+ghost use Rattle.nbt_front.specs.FixedNames.{FixedValue, fixed_of};
+ghost use Rattle.nbt_front.specs.Standing.{IsLeased};
 ghost use Rattle.nbt_front.specs.declared.deciding.Decision.{Decision};
+ghost use Rattle.nbt_front.specs.declared.deciding.Decision.TheVariants.{FixedRefused};
 ghost use Rattle.nbt_front.specs.Numbers.{addrs_most, names_most};
 
 use crate::fixed::ADDRS_MOST;
@@ -11,19 +18,29 @@ use crate::names::NAMES_MOST;
 
 /// A front decides of a message in one way, and with one reply.
 pub fn one_decision()
-    ensures { (front : FrontValue) (ip : ℕ) (m : MessageValue) (c d : Decision) (r s : MessageValue) → Decides front ip m c r → Decides front ip m d s → (c ≡ d) × (r ≡ s) }
+    ensures { (desk : DeskValue) (now ip : ℕ) (m : MessageValue) (c d : Decision) (r s : MessageValue) → Decides desk now ip m c r → Decides desk now ip m d s → (c ≡ d) × (r ≡ s) }
 {}
 
-/// It decides of the requests that are about a fixed name, and of claims whose sender may not register; and of nothing else.
+/// It decides of claims of a fixed name, of the other requests that are about one in whose way no lease stands, and of claims whose
+/// sender may not register; and of nothing else.
 pub fn what_is_decided()
-    ensures decided { (front : FrontValue) (ip : ℕ) (m : MessageValue) (d : Decision) (r : MessageValue) → Decides front ip m d r → IsOfFixed front m ⊎ IsUnallowed front ip m }
-    ensures fixed { (front : FrontValue) (ip : ℕ) (m : MessageValue) → IsOfFixed front m → (d : Decision) × (r : MessageValue) × Decides front ip m d r }
-    ensures unallowed { (front : FrontValue) (ip : ℕ) (m : MessageValue) → IsUnallowed front ip m → (d : Decision) × (r : MessageValue) × Decides front ip m d r }
+    ensures decided { (desk : DeskValue) (now ip : ℕ) (m : MessageValue) (d : Decision) (r : MessageValue) → Decides desk now ip m d r → IsOfFixed desk now m ⊎ IsUnallowed desk.front ip m }
+    ensures fixed { (desk : DeskValue) (now ip : ℕ) (m : MessageValue) → IsOfFixed desk now m → (d : Decision) × (r : MessageValue) × Decides desk now ip m d r }
+    ensures unallowed { (desk : DeskValue) (now ip : ℕ) (m : MessageValue) → IsUnallowed desk.front ip m → (d : Decision) × (r : MessageValue) × Decides desk now ip m d r }
 {}
 
 /// A front without networks and names decides of nothing.
 pub fn an_open_front_decides_nothing()
-    ensures { (front : FrontValue) (ip : ℕ) (m : MessageValue) → front.allowed ≡ [] → front.fixed ≡ [] → Passes front ip m }
+    ensures { (desk : DeskValue) (now ip : ℕ) (m : MessageValue) → desk.front.allowed ≡ [] → desk.front.fixed ≡ [] → Passes desk now ip m }
+{}
+
+/// While a lease stands in the way of a fixed name, each claim of that name is refused, whoever sends it; a query for it, and a release of
+/// it, are the server's.
+pub fn a_lease_stands_until_it_ends()
+    ensures refused { (desk : DeskValue) (now ip : ℕ) (m : MessageValue) (r : Registration) (fixed : FixedValue) → Claims m r → fixed_of desk.front.fixed r.name ≡ Some fixed → IsLeased desk.kept now r.name
+        → Decides desk now ip m (FixedRefused r.name) (refusal active_error r) }
+    ensures queried { (desk : DeskValue) (now ip id : ℕ) (name : NameValue) → IsLeased desk.kept now name → Passes desk now ip (query id name) }
+    ensures released { (desk : DeskValue) (now ip id : ℕ) (name : NameValue) (kind : Kind) (addr : ℕ) → IsLeased desk.kept now name → Passes desk now ip (release id name kind addr) }
 {}
 
 /// 1,024 names may be fixed, and 48 addresses of a group (our profile).

@@ -16,6 +16,7 @@ mod names;
 mod network;
 mod port;
 mod reading;
+mod standing;
 mod telling;
 
 pub use deciding::{Decision, Front};
@@ -27,3 +28,4 @@ pub use names::{FixedNames, NAMES_MOST};
 pub use network::{Network, read_network};
 pub use port::FrontPort;
 pub use reading::read_fixed;
+pub use standing::Standing;

@@ -4,12 +4,14 @@ ghost use Rattle.std.specs.Prelude.{◌≡◌, ◌↔◌, ◌<◌, Some, None, [
 ghost use Rattle.nbt_front.specs.FixedNames.{fixed_of};
 ghost use Rattle.nbt_front.specs.Files.{Adds, IsBarred, Joins};
 ghost use Rattle.nbt_front.specs.Numbers.{names_most};
+ghost use Rattle.nbt_front.specs.Standing.{in_the_way, is_in_the_way};
 ghost use Rattle.nbt_front.specs.Inner.Refusals.{IsRefusedBy};
 
 use crate::fault::{LineFault, Refused};
 use crate::fixed::Fixed;
 use crate::line::FixedLine;
 use indexmap::IndexMap;
+use nbt_lease::Lease;
 use nbt_name::Name;
 use std::alloc::Global;
 use std::marker::Model;
@@ -61,6 +63,23 @@ impl FixedNames {
         ensures none { IfNone result (fixed_of self.now name.now ≡ None) }
     {
         self.names.get(name)
+    }
+
+    /// Leaves of these leases those that stand in the way of one of the names.
+    pub fn retain_in_the_way(&self, rows: &mut Vec<(Name, Lease)>)
+        ensures { rows.new.items ≡ in_the_way self.now rows.old.items }
+    {
+        rows.retain(|row| self.is_barred_by(&row.0, &row.1));
+    }
+
+    /// Whether a lease of this name stands in its way.
+    fn is_barred_by(&self, name: &Name, lease: &Lease) -> bool
+        ensures { result ≡ is_in_the_way (fixed_of self.now name.now) lease.now }
+    {
+        match self.get(name) {
+            Some(fixed) => fixed.is_barred_by(lease),
+            None => false,
+        }
     }
 
     /// Adds what a line says.

@@ -12,7 +12,7 @@ use std::io::Write;
 use std::marker::Model;
 
 /// A port over another. It answers each datagram of which the front decides, and hands on every other as it is: so that nothing came is
-/// also said of a datagram that was answered. It sends what it is given. A contract sees the port beneath and the front.
+/// also said of a datagram that was answered. It sends what it is given. A contract sees the port beneath and the front at work.
 #[derive(Drop)]
 pub struct FrontPort<'a, P, C> {
     beneath: P,
@@ -25,13 +25,13 @@ impl<'a, P, C> Model for FrontPort<'a, P, C> {
 
     ghost Value = { Fronted P };
 
-    ghost view = { λ p. record { port = p.beneath; front = p.desk } };
+    ghost view = { λ p. record { port = p.beneath; desk = p.desk } };
 }
 
 impl<'a, P, C> FrontPort<'a, P, C> {
     /// A port over this one, before which this front stands.
     pub fn new(beneath: P, desk: Desk<'a, C>) -> FrontPort<'a, P, C>
-        ensures { result ≡ record { port = beneath; front = desk.entry } }
+        ensures { result ≡ record { port = beneath; desk = desk.entry } }
     {
         FrontPort {
             beneath,
@@ -57,14 +57,15 @@ impl<'a, P: Port, C: Clock> FrontPort<'a, P, C> {
     ) -> Result<Option<Addr>, Device>
         requires failure_count { P.failures self.old.port < 2 ^ 62 }
         ensures does { (before : P) → P.does before (receiving (Ok from) octets.old.items) self.old.port
-            → FrontDoes P.does (record { port = before; front = self.old.front }) (receiving result octets.new.items) self.new }
+            → FrontDoes P.does (record { port = before; desk = self.old.desk }) (receiving result octets.new.items) self.new }
         ensures count { CountsFailure (P.failures self.old.port) (P.failures self.new.port) result }
     {
         let Some(sender) = from else {
             return Ok(None);
         };
-        let front = self.desk.front();
-        let Some(decision) = front.decide(sender, octets.as_slice(), &mut self.reply) else {
+        let reply = &mut self.reply;
+        let Some(decision) = self.desk.decide(sender, octets.as_slice(), reply) else {
+            self.desk.hand_on(sender, octets.as_slice());
             return Ok(Some(sender));
         };
         octets.clear();

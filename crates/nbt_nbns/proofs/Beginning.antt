@@ -1,5 +1,5 @@
 -- A name server and its journal begin, over this machine.
-use Rattle.std.proofs.Common.{◌≡◌, ◌⊎◌, ℕ, ◌+◌, List, Option, Some, refl, subst, inl, inr}
+use Rattle.std.proofs.Common.{◌≡◌, ◌⊎◌, ℕ, ◌+◌, List, [], Option, Some, refl, subst, inl, inr}
 use Rattle.std.specs.Io.KnownBytes.{Appends}
 use Rattle.nbt_name.specs.declared.addr.Addr.{Addr}
 use Rattle.nbt_lease.specs.Config.{milliseconds}
@@ -10,7 +10,7 @@ use Rattle.nbt_port.specs.Udp.{PortsValue}
 use Rattle.nbt_port.specs.declared.fault.Fault.{Fault}
 use Rattle.nbt_port.specs.declared.fault.Fault.TheVariants.{Memory, Output}
 use Rattle.nbt_log.specs.Dates.{second_at}
-use Rattle.nbt_front.specs.Deciding.{FrontValue}
+use Rattle.nbt_front.specs.Deciding.{DeskValue, desk_of}
 use Rattle.nbt_nbns.specs.Begin.{IsBegin}
 use Rattle.nbt_nbns.specs.Inner.Starting.{Starts, StartsNot}
 use Rattle.nbt_nbns.specs.Running.{Nbns, Begins, new_journal}
@@ -21,14 +21,14 @@ use Rattle.nbt_nbns.specs.declared.starting.Started.{Started}
 
 -- what a server and its journal are at first
 abbrev pub at_first : NbnsArguments → (start time : ℕ) → ServerValue → Option (List ℕ) → Nbns
-at_first a start time first text = record { port = record { port = record { bind = a.bind; failures = 0 }; front = a.front }; clock = start; server = limited (Some a.rows_per_client) first; watcher = new_journal a (record { moment = start; time = time }) time start; text = text }
+at_first a start time first text = record { port = record { port = record { bind = a.bind; failures = 0 }; desk = desk_of a.front [] }; clock = start; server = limited (Some a.rows_per_client) first; watcher = new_journal a (record { moment = start; time = time }) time start; text = text }
 
 -- it is what goes on of a server that began, behind its port
-pub is_at_first : (a : NbnsArguments) (start time : ℕ) (first : ServerValue) (text begun_text : Option (List ℕ)) (port : PortsValue) (front : FrontValue) (s : Started ℕ (Journal ℕ FileValue))
-    → port ≡ record { bind = a.bind; failures = 0 } → front ≡ a.front → text ≡ begun_text
+pub is_at_first : (a : NbnsArguments) (start time : ℕ) (first : ServerValue) (text begun_text : Option (List ℕ)) (port : PortsValue) (desk : DeskValue) (s : Started ℕ (Journal ℕ FileValue))
+    → port ≡ record { bind = a.bind; failures = 0 } → desk ≡ desk_of a.front [] → text ≡ begun_text
     → s ≡ record { at = start; clock = start; server = limited (Some a.rows_per_client) first; journal = new_journal a (record { moment = start; time = time }) time start }
-    → ◌≡◌ {A = ℕ × Nbns} (s.at, record { port = record { port = port; front = front }; clock = s.clock; server = s.server; watcher = s.journal; text = text }) (start, at_first a start time first begun_text)
-is_at_first a start time first text begun_text port front s p f t is = cc
+    → ◌≡◌ {A = ℕ × Nbns} (s.at, record { port = record { port = port; desk = desk }; clock = s.clock; server = s.server; watcher = s.journal; text = text }) (start, at_first a start time first begun_text)
+is_at_first a start time first text begun_text port desk s p f t is = cc
 
 -- what a server that began is, from what made it
 pub is_started : (a : NbnsArguments) (start clock time day : ℕ) (first server : ServerValue) (journal : Journal ℕ FileValue)
@@ -51,7 +51,7 @@ starts a old_text text boot start clock day_before time day first server journal
   line = line.1;
   begun_text = text;
   first = first;
-  port = record { port = record { bind = a.bind; failures = 0 }; front = a.front };
+  port = record { port = record { bind = a.bind; failures = 0 }; desk = desk_of a.front [] };
   clock = clock;
   last = server;
   journal = journal;
@@ -65,10 +65,10 @@ starts a old_text text boot start clock day_before time day first server journal
 }
 
 -- a server that began goes on behind its port
-pub goes_on : (a : NbnsArguments) (goes : (start : ℕ) → Nbns → Nbns → Type 0) (old_text begun_text text : Option (List ℕ)) (port : PortsValue) (front : FrontValue) (s : Started ℕ (Journal ℕ FileValue)) (new : Nbns)
-    → Starts a old_text begun_text s → port ≡ record { bind = a.bind; failures = 0 } → front ≡ a.front → new.text ≡ text
-    → goes s.at (record { port = record { port = port; front = front }; clock = s.clock; server = s.server; watcher = s.journal; text = begun_text }) new → Begins a goes old_text text
-goes_on a goes old_text begun_text text port front s new b port_is front_is text_is run = record {
+pub goes_on : (a : NbnsArguments) (goes : (start : ℕ) → Nbns → Nbns → Type 0) (old_text begun_text text : Option (List ℕ)) (port : PortsValue) (desk : DeskValue) (s : Started ℕ (Journal ℕ FileValue)) (new : Nbns)
+    → Starts a old_text begun_text s → port ≡ record { bind = a.bind; failures = 0 } → desk ≡ desk_of a.front [] → new.text ≡ text
+    → goes s.at (record { port = record { port = port; desk = desk }; clock = s.clock; server = s.server; watcher = s.journal; text = begun_text }) new → Begins a goes old_text text
+goes_on a goes old_text begun_text text port desk s new b port_is desk_is text_is run = record {
   at = b.at;
   boot = b.boot;
   start = b.start;
@@ -88,7 +88,7 @@ goes_on a goes old_text begun_text text port front s new b port_is front_is text
   printed = b.printed;
   starts = b.starts;
   goes_on = subst (λ (t : Option (List ℕ)). goes b.start (at_first a b.start b.time b.first b.begun_text) (record new { text = t })) text_is
-      (subst (λ (x : ℕ × Nbns). goes x.0 x.1 new) (is_at_first a b.start b.time b.first begun_text b.begun_text port front s port_is front_is b.goes_on.1 b.goes_on.0) run);
+      (subst (λ (x : ℕ × Nbns). goes x.0 x.1 new) (is_at_first a b.start b.time b.first begun_text b.begun_text port desk s port_is desk_is b.goes_on.1 b.goes_on.0) run);
 }
 
 -- how it doesn't begin, where the line isn't printed

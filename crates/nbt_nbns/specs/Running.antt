@@ -1,5 +1,5 @@
 -- What `nbns` does and prints over this machine (our profile).
-use Rattle.std.specs.Prelude.{ℕ, ◌+◌, Bool, true, false, if◌then◌else◌, List, Option, Some, None, String}
+use Rattle.std.specs.Prelude.{ℕ, ◌+◌, Bool, true, false, if◌then◌else◌, List, [], Option, Some, None, String}
 use Rattle.std.specs.String.{string_bytes}
 use Rattle.std.specs.Io.KnownBytes.{Appends}
 use Rattle.nbt_name.specs.declared.addr.Addr.{Addr}
@@ -13,6 +13,7 @@ use Rattle.nbt_port.specs.Until.{until_of}
 use Rattle.nbt_log.specs.Dates.{second_at}
 use Rattle.nbt_log.specs.declared.dates.Dates.{Dates}
 use Rattle.nbt_port.specs.Until.{until_of}
+use Rattle.nbt_front.specs.Deciding.{desk_of}
 use Rattle.nbt_front.specs.FrontPort.{Fronted, FrontDoes}
 use Rattle.nbt_report.specs.Tallies.{no_tally}
 use Rattle.nbt_report.specs.declared.origin.Origin.{Origin}
@@ -93,7 +94,7 @@ pub record Begins (a : NbnsArguments) (goes : (start : ℕ) → Nbns → Nbns �
   pub printed : Appends old_text begun_text line
   pub starts : ServerStarts a.config start first
   pub goes_on : goes start
-      (record { port = record { port = record { bind = a.bind; failures = 0 }; front = a.front }; clock = start; server = limited (Some a.rows_per_client) first; watcher = new_journal a (record { moment = start; time = time }) time start; text = begun_text })
+      (record { port = record { port = record { bind = a.bind; failures = 0 }; desk = desk_of a.front [] }; clock = start; server = limited (Some a.rows_per_client) first; watcher = new_journal a (record { moment = start; time = time }) time start; text = begun_text })
       (record { port = port; clock = clock; server = last; watcher = journal; text = text })
 
 -- it stays up, or its time is over

@@ -104,9 +104,9 @@ fn watch_over<
 ) -> Result<(), Fault>
     requires failure_count { port.failures ≤ 2 ^ 61 }
     ensures ok { OnOk result ((last_port : Fronted PortsValue) × (last : Begun C V) × WatchesUntil (PortDoes strict) PortFailures C.tells V.sees until
-        (watching_of (record { port = port.entry; front = desk.entry }) started (W.contents writer.old)) (watching_of last_port last (W.contents writer.new))) }
+        (watching_of (record { port = port.entry; desk = desk.entry }) started (W.contents writer.old)) (watching_of last_port last (W.contents writer.new))) }
     ensures err { OnErr result ((last_port : Fronted PortsValue) × (last : Begun C V) × WatchFails (PortDoes strict) PortFailures C.tells V.sees until
-        (watching_of (record { port = port.entry; front = desk.entry }) started (W.contents writer.old)) (watching_of last_port last (W.contents writer.new))) }
+        (watching_of (record { port = port.entry; desk = desk.entry }) started (W.contents writer.old)) (watching_of last_port last (W.contents writer.new))) }
     ensures fault { IfErr result (λ fault. fault ≡ Fault.Device) }
 {
     let mut started = started;

@@ -1,11 +1,13 @@
 -- A server that keeps its leases begins, over this machine.
-use Rattle.std.proofs.Common.{◌≡◌, ◌⊎◌, ℕ, List, Bool, false, Option, Result, Ok, Err, refl, subst, inl, inr}
+use Rattle.std.proofs.Common.{◌≡◌, ◌∙◌, ◌⊎◌, ℕ, List, Bool, false, Option, Result, Ok, Err, refl, ap, subst, inl, inr}
 use Rattle.std.specs.Prelude.{IfErr}
 use Rattle.nbt_port.specs.Udp.{PortsValue}
 use Rattle.nbt_port.specs.declared.ahead.Ahead.{Ahead}
 use Rattle.nbt_port.specs.declared.fault.Fault.{Fault}
 use Rattle.nbt_port.specs.declared.fault.Fault.TheVariants.{Memory, Output}
-use Rattle.nbt_front.specs.Deciding.{FrontValue}
+use Rattle.nbt_lease.specs.Lease.{Rows}
+use Rattle.nbt_front.specs.Deciding.{DeskValue, desk_of}
+use Rattle.nbt_front.specs.Standing.{in_the_way}
 use Rattle.nbt_nbns.specs.Places.{FileValue}
 use Rattle.nbt_nbns.specs.Running.{new_journal}
 use Rattle.nbt_nbns.specs.declared.journal.Journal.{Journal}
@@ -13,6 +15,7 @@ use Rattle.nbt_nbns.specs.declared.running.NbnsArguments.{NbnsArguments}
 use Rattle.nbt_state.specs.Inner.Standing.{staying_of}
 use Rattle.nbt_state.specs.Inner.Starting.{AreRead, Starts, StartsNot, first_kept, kept_of}
 use Rattle.nbt_state.specs.Running.{KeptNbns, BeginsKept, dates_of}
+use Rattle.nbt_keep.specs.Runs.{live_rows}
 use Rattle.nbt_keep.specs.Teller.{TellerValue, new_teller}
 use Rattle.nbt_keep.specs.Waiting.{WaitingValue, none_waits}
 use Rattle.nbt_state.specs.declared.arguments.StateFolder.{StateFolder}
@@ -49,10 +52,10 @@ pub not_told : (old_text text : Option (List ℕ)) (r : Fault) → (r ≡ Output
 not_told old_text text r (inl is) = inl is
 not_told old_text text r (inr (is, same)) = inr ((λ was. cc), same)
 
-pub begins : (a : NbnsArguments) (state : StateFolder) (goes : (start : ℕ) → KeptNbns → KeptNbns → Type 0) (old_text begun_text text : Option (List ℕ)) (port : PortsValue) (front : FrontValue) (kept : KeptServer Bool (Ahead ℕ) ℕ (Journal ℕ FileValue)) (new : KeptNbns)
-    → Starts a state old_text begun_text kept → port ≡ record { bind = a.bind; failures = 0 } → front ≡ a.front → new.text ≡ text
-    → goes kept.server.last (staying_of (record { port = port; front = front }) kept begun_text) new → BeginsKept a state goes old_text text
-begins a state goes old_text begun_text text port front kept new s port_is front_is text_is run = record {
+pub begins : (a : NbnsArguments) (state : StateFolder) (goes : (start : ℕ) → KeptNbns → KeptNbns → Type 0) (old_text begun_text text : Option (List ℕ)) (port : PortsValue) (desk : DeskValue) (kept : KeptServer Bool (Ahead ℕ) ℕ (Journal ℕ FileValue)) (standing : Rows) (new : KeptNbns)
+    → Starts a state old_text begun_text kept standing → port ≡ record { bind = a.bind; failures = 0 } → desk ≡ desk_of a.front standing → new.text ≡ text
+    → goes kept.server.last (staying_of (record { port = port; desk = desk }) kept begun_text) new → BeginsKept a state goes old_text text
+begins a state goes old_text begun_text text port desk kept standing new s port_is desk_is text_is run = record {
   at = s.at;
   boot = s.read.boot;
   told = s.told;
@@ -68,8 +71,8 @@ begins a state goes old_text begun_text text port front kept new s port_is front
   found = s.found;
   is_first = s.is_first;
   printed = s.printed;
-  goes_on = subst (λ (k : KeptServer Bool (Ahead ℕ) ℕ (Journal ℕ FileValue)). goes k.server.last (staying_of (record { port = record { bind = a.bind; failures = 0 }; front = a.front }) k begun_text) new) s.kept_is
-      (subst (λ (p : PortsValue). goes kept.server.last (staying_of (record { port = p; front = a.front }) kept begun_text) new) port_is
-      (subst (λ (f : FrontValue). goes kept.server.last (staying_of (record { port = port; front = f }) kept begun_text) new) front_is run));
+  goes_on = subst (λ (k : KeptServer Bool (Ahead ℕ) ℕ (Journal ℕ FileValue)). goes k.server.last (staying_of (record { port = record { bind = a.bind; failures = 0 }; desk = desk_of a.front (in_the_way a.front.fixed (live_rows s.begun.server)) }) k begun_text) new) s.kept_is
+      (subst (λ (p : PortsValue). goes kept.server.last (staying_of (record { port = p; desk = desk_of a.front (in_the_way a.front.fixed (live_rows s.begun.server)) }) kept begun_text) new) port_is
+      (subst (λ (d : DeskValue). goes kept.server.last (staying_of (record { port = port; desk = d }) kept begun_text) new) (desk_is ∙ ap (λ (rows : Rows). desk_of a.front rows) s.standing_are) run));
   text_is = text_is;
 }

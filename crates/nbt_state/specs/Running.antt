@@ -11,7 +11,9 @@ use Rattle.nbt_port.specs.declared.ahead.Ahead.{Ahead}
 use Rattle.nbt_port.specs.declared.fault.Fault.{Fault}
 use Rattle.nbt_log.specs.declared.dates.Dates.{Dates}
 use Rattle.nbt_server.specs.Calls.{limited}
+use Rattle.nbt_front.specs.Deciding.{desk_of}
 use Rattle.nbt_front.specs.FrontPort.{Fronted}
+use Rattle.nbt_front.specs.Standing.{in_the_way}
 use Rattle.nbt_nbns.specs.Journaling.{Journals}
 use Rattle.nbt_nbns.specs.Places.{FileValue, Stays}
 use Rattle.nbt_nbns.specs.Running.{PortDoes, PortFailures, RunsNbns, new_journal}
@@ -39,10 +41,11 @@ KeptNbns = Staying (Fronted PortsValue) Bool (Ahead ℕ) ℕ (Journal ℕ FileVa
 abbrev pub dates_of : Begun → (time : ℕ) → Dates
 dates_of begun time = record { moment = begun.reads; time = time }
 
--- what a server is at first that begins so, at this time of the monotonic clock and this time of day: it limits its clients
+-- What a server is at first that begins so, at this time of the monotonic clock and this time of day: it limits its clients, and those of its leases stand in
+-- the way of fixed names that are another machine's.
 abbrev pub at_first : NbnsArguments → Begun → (monotonic time : ℕ) → Option (List ℕ) → KeptNbns
 at_first a begun monotonic time text = record {
-  keeping = record { port = record { port = record { bind = a.bind; failures = 0 }; front = a.front }; store = false; clock = record { clock = monotonic; by = begun.header.ahead }; server = limited (Some a.rows_per_client) begun.server; waiting = none_waits begun.header.last };
+  keeping = record { port = record { port = record { bind = a.bind; failures = 0 }; desk = desk_of a.front (in_the_way a.front.fixed (live_rows begun.server)) }; store = false; clock = record { clock = monotonic; by = begun.header.ahead }; server = limited (Some a.rows_per_client) begun.server; waiting = none_waits begun.header.last };
   header = begun.header;
   day = time;
   teller = new_teller (new_journal a (dates_of begun time) 0 begun.start);

@@ -7,6 +7,7 @@ mod first_line;
 mod folder;
 mod opening;
 mod running;
+mod standing;
 mod starting;
 
 pub use arguments::{ServerArguments, StateFolder};

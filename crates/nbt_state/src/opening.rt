@@ -1,6 +1,6 @@
 //! What a server reads and writes at its start, where it keeps its leases.
 
-ghost use Rattle.std.specs.Prelude.{◌≡◌, false, length, IfOk, IfErr};
+ghost use Rattle.std.specs.Prelude.{◌≡◌, false, IfOk, IfErr};
 ghost use Rattle.nbt_state.specs.Opening.{IsStoreFault, IsFoundHere, seen_in};
 ghost use Rattle.nbt_state.specs.Inner.Starting.{AreRead};
 ghost use Rattle.nbt_keep.specs.Runs.{live_rows};
@@ -8,8 +8,8 @@ ghost use Rattle.nbt_keep.specs.Runs.{live_rows};
 use crate::arguments::StateFolder;
 use crate::folder::FolderStore;
 use nbt_keep::list_live;
-use nbt_lease::{Config, Moment};
-use nbt_name::Addr;
+use nbt_lease::{Config, Lease, Moment};
+use nbt_name::{Addr, Name};
 use nbt_port::{Clock, Fault, MachineClock, SteadyClock, readable_clock, steady_clock};
 use nbt_resume::{Begun, Found, Reason, begin, outlasts};
 use nbt_store::{Boot, Fault as FileFault, Seen, SystemDisk, this_boot};
@@ -20,13 +20,13 @@ use std::net::Net;
 use std::rt::Files;
 use std::{io, time};
 
-/// A store that was opened, and how many leases it has.
+/// A store that was opened, and the leases that it has.
 #[derive(Drop)]
 pub(crate) struct Opened<'a, M: Files> {
     /// The store.
     pub store: FolderStore<'a, M>,
-    /// How many leases it has.
-    pub count: usize,
+    /// The leases that it has.
+    pub rows: Vec<(Name, Lease)>,
 }
 
 /// A folder that is locked for this server alone. Its file and the machine's clocks are read through it, so after it was locked: no server
@@ -163,7 +163,7 @@ pub(crate) fn open_store<'a, M: Files<File = File> + time::Clock, E: Write>(
     errors: &mut E,
 ) -> Result<Opened<'a, M>, Fault>
     ensures store { IfOk result (λ opened. opened.store ≡ false) }
-    ensures count { IfOk result (λ opened. opened.count ≡ length (live_rows begun.now.server)) }
+    ensures rows { IfOk result (λ opened. opened.rows.items ≡ live_rows begun.now.server) }
     ensures err { IfErr result IsStoreFault }
 {
     let Locked { mut disk, folder } = locked;
@@ -175,10 +175,7 @@ pub(crate) fn open_store<'a, M: Files<File = File> + time::Clock, E: Write>(
     let mut rows = Vec::new(alloc);
     list_live(&begun.server, &mut rows)?;
     match FolderStore::open(disk, alloc, &begun.header, rows.as_slice()) {
-        Ok(store) => Ok(Opened {
-            store,
-            count: rows.len(),
-        }),
+        Ok(store) => Ok(Opened { store, rows }),
         Err(error) => Err(refused("the leases can't be kept", folder, error, errors)),
     }
 }

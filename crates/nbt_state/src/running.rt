@@ -14,12 +14,12 @@ ghost use Rattle.nbt_state.specs.declared.starting.KeptServer.{KeptServer as Kep
 ghost use Rattle.nbt_keep.specs.declared.fault.KeepFault.TheVariants as fault;
 
 use crate::arguments::{ServerArguments, StateFolder};
-use crate::starting::{KeptServer, start};
+use crate::starting::{KeptServer, StartedServer, start};
 use nbt_front::{Desk, FrontPort};
 use nbt_keep::keep_on;
 use nbt_lease::Moment;
 use nbt_nbns::{NbnsArguments, Watcher, run_nbns};
-use nbt_port::{Clock, Fault, MachineClock, Port, UdpPorts, tell_end_of, until_of};
+use nbt_port::{Ahead, Clock, Fault, Port, UdpPorts, steady_clock, tell_end_of, until_of};
 use nbt_serve::SambaPort;
 use nbt_store::Store;
 use std::alloc::Global;
@@ -50,7 +50,8 @@ pub fn run_server<M: Net + time::Clock + Files<File = File>, W: Write, E: Write>
     }
 }
 
-/// Runs a name server that keeps its leases.
+/// Runs a name server that keeps its leases. Its front has a clock of its own that tells the times of the server's, since the leases that
+/// stand in the way of fixed names end by those.
 fn run_kept<M: Net + time::Clock + Files<File = File>, W: Write, E: Write>(
     machine: &M,
     alloc: Global,
@@ -66,9 +67,14 @@ fn run_kept<M: Net + time::Clock + Files<File = File>, W: Write, E: Write>(
     ensures clock { result ≡ Err Fault.NoClock → W.contents writer.new ≡ W.contents writer.old }
 {
     let port = UdpPorts::bind(machine, alloc, &arguments.bind, errors)?;
-    let kept = start(machine, alloc, arguments, state, &port, writer, errors)?;
+    let clock = steady_clock(machine, arguments.bind.first(), errors)?;
+    let StartedServer { kept, standing } = start(
+        machine, alloc, arguments, state, &port, writer, errors,
+    )?;
     let until = until_of(kept.server.last(), arguments.time);
-    let desk = Desk::new(alloc, &arguments.front, MachineClock::new(machine));
+    let by = kept.header.ahead;
+    let mut desk = Desk::new(alloc, &arguments.front, Ahead { clock, by });
+    desk.keep(standing);
     keep_over(
         port,
         arguments.strict,
@@ -108,10 +114,10 @@ fn keep_over<
     requires room { length kept.waiting.replies < batch }
     ensures ok { OnOk result ((last_port : Fronted PortsValue) × (last : Kept S C D V) × StaysUntil (WatchesOn (PortDoes strict) PortFailures S.does C.tells D.tells V.sees until)
         (BreaksStaying (PortDoes strict) PortFailures S.does C.tells D.tells V.sees fault.Port) (WatchesLast (PortDoes strict) PortFailures S.does C.tells D.tells V.sees until) forever
-        (staying_of (record { port = port.entry; front = desk.entry }) kept (W.contents writer.old)) (staying_of last_port last (W.contents writer.new))) }
+        (staying_of (record { port = port.entry; desk = desk.entry }) kept (W.contents writer.old)) (staying_of last_port last (W.contents writer.new))) }
     ensures err { IfErr result (λ why. (last_port : Fronted PortsValue) × (last : Kept S C D V) × EndsEarly (WatchesOn (PortDoes strict) PortFailures S.does C.tells D.tells V.sees until)
         (BreaksStaying (PortDoes strict) PortFailures S.does C.tells D.tells V.sees fault.Port) (CutsStaying (PortDoes strict) PortFailures S.does C.tells D.tells V.sees) forever why
-        (staying_of (record { port = port.entry; front = desk.entry }) kept (W.contents writer.old)) (staying_of last_port last (W.contents writer.new))) }
+        (staying_of (record { port = port.entry; desk = desk.entry }) kept (W.contents writer.old)) (staying_of last_port last (W.contents writer.new))) }
 {
     let mut kept = kept;
     if strict {

@@ -3,6 +3,7 @@
 ghost use Rattle.std.specs.Prelude.{◌≡◌, ◌⊎◌, ℕ, List, OnOk, IfOk, IfErr};
 ghost use Rattle.std.specs.Io.KnownBytes.{Appends};
 ghost use Rattle.nbt_name.specs.declared.addr.Addr.{Addr};
+ghost use Rattle.nbt_front.specs.Standing.{in_the_way};
 ghost use Rattle.nbt_nbns.specs.Running.{new_journal};
 ghost use Rattle.nbt_keep.specs.Teller.{new_teller};
 ghost use Rattle.nbt_state.specs.Begin.{IsBegin, manner_of};
@@ -13,9 +14,12 @@ use crate::arguments::StateFolder;
 use crate::first_line::{Manner, manner_of, write_begin};
 use crate::folder::FolderStore;
 use crate::opening::{Clocks, Locked, open_store};
+use crate::standing::tell_standing;
+use nbt_front::Front;
 use nbt_keep::{Teller, Waiting};
-use nbt_lease::Moment;
+use nbt_lease::{Lease, Moment};
 use nbt_log::Dates;
+use nbt_name::Name;
 use nbt_nbns::{FilePlace, Journal, NbnsArguments, journal_of};
 use nbt_port::{Ahead, Fault, MachineClock, SteadyClock, UdpPorts, print};
 use nbt_resume::Begun;
@@ -55,11 +59,21 @@ pub(crate) type Started<'a, M> = KeptServer<
     MachineJournal<'a, M>,
 >;
 
+/// Such a server that began, and of its leases those that stand in the way of fixed names.
+#[derive(Drop)]
+pub(crate) struct StartedServer<'a, M: time::Clock + Files> {
+    /// The server, with all that goes on.
+    pub kept: Started<'a, M>,
+    /// The leases.
+    pub standing: Vec<(Name, Lease)>,
+}
+
 /// What sees its turns.
 type MachineJournal<'a, M> = Journal<MachineClock<'a, M>, FilePlace<'a, M>>;
 
-/// Locks the folder, reads then the clocks and the file, and prints how a server begins with what is found. Refused with `Output`, and else with another
-/// fault than `Device`, before anything is printed; a line in `errors` says why.
+/// Locks the folder, reads then the clocks and the file, and prints how a server begins with what is found. Before, a line in `errors` says of each lease that
+/// stands in the way of a fixed name until when it does. Refused with `Output`, and else with another fault than `Device`, before anything is printed; a line
+/// in `errors` says why.
 pub(crate) fn start<'a, M: Net + time::Clock + Files<File = File>, W: Write, E: Write>(
     machine: &'a M,
     alloc: Global,
@@ -68,8 +82,8 @@ pub(crate) fn start<'a, M: Net + time::Clock + Files<File = File>, W: Write, E: 
     port: &UdpPorts<'_, M>,
     writer: &mut W,
     errors: &mut E,
-) -> Result<Started<'a, M>, Fault>
-    ensures ok { IfOk result (λ kept. Starts arguments.now state.now (W.contents writer.old) (W.contents writer.new) kept) }
+) -> Result<StartedServer<'a, M>, Fault>
+    ensures ok { IfOk result (λ started. Starts arguments.now state.now (W.contents writer.old) (W.contents writer.new) started.kept started.standing.items) }
     ensures err { IfErr result (StartsNot (W.contents writer.old) (W.contents writer.new)) }
 {
     let locked = Locked::lock(machine, alloc, state.path.as_str(), errors)?;
@@ -78,26 +92,35 @@ pub(crate) fn start<'a, M: Net + time::Clock + Files<File = File>, W: Write, E: 
     let time = told.time;
     let begun = locked.begin(machine, alloc, state, arguments.config, told, errors)?;
     let opened = open_store(locked, alloc, &begun, errors)?;
+    let count = opened.rows.len();
+    let standing = standing_of(alloc, &arguments.front, opened.rows);
+    tell_standing(alloc, standing.as_slice(), begun.reads, time, errors);
     let waiting = Waiting::new(alloc, begun.header.last)?;
     let teller = tell_begin(
-        machine,
-        alloc,
-        arguments,
-        port,
-        &begun,
-        time,
-        opened.count,
-        writer,
-        errors,
+        machine, alloc, arguments, port, &begun, time, count, writer, errors,
     )?;
-    Ok(kept_of(
+    let rows_per_client = arguments.rows_per_client;
+    let kept = kept_of(
         begun,
         opened.store,
         clocks,
         waiting,
         teller,
-        arguments.rows_per_client,
-    ))
+        rows_per_client,
+    );
+    Ok(StartedServer { kept, standing })
+}
+
+/// Of these leases those that stand in the way of this front's names. Where there are none, what the others took is given back.
+fn standing_of(alloc: Global, front: &Front, rows: Vec<(Name, Lease)>) -> Vec<(Name, Lease)>
+    ensures { result.items ≡ in_the_way front.now.fixed rows.items }
+{
+    let mut rows = rows;
+    front.fixed().retain_in_the_way(&mut rows);
+    if rows.is_empty() {
+        return Vec::new(alloc);
+    }
+    rows
 }
 
 /// What goes on of a server that begins so. It limits its clients to so many rows.

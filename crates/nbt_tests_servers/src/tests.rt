@@ -8,4 +8,5 @@ mod nbns;
 mod reports;
 mod samba;
 mod stage;
+mod standing;
 mod turns;

@@ -11,6 +11,7 @@ mod damage;
 mod disks;
 mod expect;
 mod first_lines;
+mod fixing;
 mod folders;
 mod following;
 mod keeping;

@@ -6,7 +6,9 @@ use Rattle.nbt_port.specs.Clocks.{MachineTells, SteadyTells, SteadyBegins, Syste
 use Rattle.nbt_port.specs.declared.ahead.Ahead.{Ahead}
 use Rattle.nbt_port.specs.declared.fault.Fault.{Fault}
 use Rattle.nbt_port.specs.declared.fault.Fault.TheVariants.{Device, Output}
+use Rattle.nbt_lease.specs.Lease.{Rows}
 use Rattle.nbt_server.specs.Calls.{limited}
+use Rattle.nbt_front.specs.Standing.{in_the_way}
 use Rattle.nbt_nbns.specs.Places.{FileValue}
 use Rattle.nbt_nbns.specs.Running.{new_journal}
 use Rattle.nbt_nbns.specs.declared.journal.Journal.{Journal}
@@ -47,8 +49,9 @@ kept_of begun store clock day waiting teller rows_per_client = record {
 abbrev pub first_kept : NbnsArguments → Begun → (monotonic time : ℕ) → KeptServer Bool (Ahead ℕ) ℕ (Journal ℕ FileValue)
 first_kept a begun monotonic time = kept_of begun false monotonic time (none_waits begun.header.last) (new_teller (new_journal a (dates_of begun time) 0 begun.start)) a.rows_per_client
 
--- The folder is locked, the clocks are read, a server begins with what is found, and the first line is printed.
-pub record Starts (a : NbnsArguments) (state : StateFolder) (old_text text : Option (List ℕ)) (kept : KeptServer Bool (Ahead ℕ) ℕ (Journal ℕ FileValue)) : Type 0 where
+-- The folder is locked, the clocks are read, a server begins with what is found, and the first line is printed. These of its leases stand in the way of fixed
+-- names.
+pub record Starts (a : NbnsArguments) (state : StateFolder) (old_text text : Option (List ℕ)) (kept : KeptServer Bool (Ahead ℕ) ℕ (Journal ℕ FileValue)) (standing : Rows) : Type 0 where
   pub told : Told
   pub begun : Begun
   pub at : List Addr
@@ -58,6 +61,7 @@ pub record Starts (a : NbnsArguments) (state : StateFolder) (old_text text : Opt
   pub is_first : IsBegin at (manner_of a.config.longest begun.start begun.server.last (dates_of begun told.time) (length (live_rows begun.server)) begun.reason) line
   pub printed : Appends old_text text line
   pub kept_is : kept ≡ first_kept a begun told.monotonic told.time
+  pub standing_are : standing ≡ in_the_way a.front.fixed (live_rows begun.server)
 
 -- It doesn't: the line can't be written, or nothing was printed, and it isn't for the device.
 abbrev pub StartsNot : (old_text text : Option (List ℕ)) → Fault → Type 0

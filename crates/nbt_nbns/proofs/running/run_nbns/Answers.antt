@@ -18,7 +18,7 @@ pub returns-clause-ok : goal.returns-clause-ok
 returns-clause-ok g c =
     let a = c.args.arguments.now in
     let w = c.watch_over in
-    let first = watching_of (record { port = c.in_ok-port.port; front = c.new-desk.result }) c.in_ok-started.started (g.W.Write.contents c.start.new.writer) in
+    let first = watching_of (record { port = c.in_ok-port.port; desk = c.new-desk.result }) c.in_ok-started.started (g.W.Write.contents c.start.new.writer) in
     on_ok_weaker w.result (λ run. goes_on a (λ start. WatchesUntil (PortDoes a.strict) PortFailures (SteadyTells SystemShows) (Journals MachineTells Stays) (until_of start a.time))
     (g.W.Write.contents c.args.writer.now) (g.W.Write.contents c.start.new.writer) (g.W.Write.contents w.new.writer) c.in_ok-port.port c.new-desk.result c.in_ok-started.started
     (watching_of run.0 run.1 (g.W.Write.contents w.new.writer))
@@ -28,7 +28,7 @@ pub returns-clause-device : goal.returns-clause-device
 returns-clause-device g c = λ failed.
     let a = c.args.arguments.now in
     let w = c.watch_over in
-    let first = watching_of (record { port = c.in_ok-port.port; front = c.new-desk.result }) c.in_ok-started.started (g.W.Write.contents c.start.new.writer) in
+    let first = watching_of (record { port = c.in_ok-port.port; desk = c.new-desk.result }) c.in_ok-started.started (g.W.Write.contents c.start.new.writer) in
     let run = of_err w.result f.Device failed w.ensures.err in
     goes_on a (λ start. WatchFails (PortDoes a.strict) PortFailures (SteadyTells SystemShows) (Journals MachineTells Stays) (until_of start a.time))
     (g.W.Write.contents c.args.writer.now) (g.W.Write.contents c.start.new.writer) (g.W.Write.contents w.new.writer) c.in_ok-port.port c.new-desk.result c.in_ok-started.started

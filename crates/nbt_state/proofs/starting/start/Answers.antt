@@ -1,5 +1,7 @@
-use Rattle.std.proofs.Common.{◌∙◌}
+use Rattle.std.proofs.Common.{◌≡◌, ◌∙◌, length, ap, rules}
 use Rattle.std.proofs.lemmas.Result.{err_from_is_err_and}
+use Rattle.nbt_lease.specs.Lease.{Rows}
+use Rattle.nbt_front.specs.Standing.{in_the_way}
 use Rattle.nbt_state.proofs.Started.{are_read, for_memory, is_first_kept}
 use Rattle.nbt_state.proofs.starting.start.Goals as goal
 
@@ -11,6 +13,7 @@ returns-clause-ok g c =
     let opened = c.in_ok-opened.opened in
     let line = c.in_ok-teller.ensures.line in
     let read = c.in_ok-clocks.ensures.ok in
+    let counted : c.len-count.result ≡ length opened.rows.items = search rules in
     record {
       told = clocks.told;
       begun = begun;
@@ -18,10 +21,11 @@ returns-clause-ok g c =
       line = line.1;
       read = are_read clocks.steady clocks.told clocks.day read;
       found = c.in_ok-begun.ensures.ok;
-      is_first = rw (← c.in_ok-opened.ensures.count) line.2;
+      is_first = rw (← c.in_ok-opened.ensures.rows, ← counted) line.2;
       printed = line.3;
-      kept_is = c.kept_of.ensures ∙ is_first_kept a begun clocks.told.monotonic clocks.told.time opened.store clocks.steady clocks.day c.in_ok-waiting.waiting c.in_ok-teller.teller
+      kept_is = c.kept_of-kept.ensures ∙ is_first_kept a begun clocks.told.monotonic clocks.told.time opened.store clocks.steady clocks.day c.in_ok-waiting.waiting c.in_ok-teller.teller
           c.in_ok-opened.ensures.store read.monotonic_told.keeps read.time_told.0 c.in_ok-waiting.ensures c.in_ok-teller.ensures.teller;
+      standing_are = c.standing_of-standing.ensures ∙ ap (λ (rows : Rows). in_the_way a.front.fixed rows) c.in_ok-opened.ensures.rows;
     }
 
 pub returns-in_err-waiting-clause-err : goal.returns-in_err-waiting-clause-err
