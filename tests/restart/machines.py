@@ -74,8 +74,9 @@ class Machine:
 class Server:
     """A name server that keeps its leases in a folder, at an address of its own."""
 
-    def __init__(self, nbt, machine, address, folder, longest=LONGEST, umask=-1, words=()):
+    def __init__(self, nbt, machine, address, folder, longest=LONGEST, fixed=None, umask=-1, words=()):
         kept = ["--life", LIFE, "--longest", f"{longest}s", "--state", folder]
+        kept += ["--fixed", fixed] if fixed else []
         around = machine.environment if machine else None
         command = [nbt, "nbns", "--bind", address, *kept, *words]
         self.running = subprocess.Popen(command, stdout=subprocess.PIPE, stderr=subprocess.STDOUT, env=around, umask=umask)

@@ -11,6 +11,7 @@ import traceback
 
 import clock_scenes
 import file_scenes
+import fixed_scenes
 import kills
 from machines import Lab
 
@@ -29,7 +30,8 @@ def play(part, what, out):
 def main(nbt, library, work, *names):
     """Plays the scenes of these names, or all."""
     lab, out = Lab(nbt, library, work), threading.Lock()
-    scenes = {**clock_scenes.scenes(lab), **file_scenes.scenes(lab), "kills": [lambda: kills.kills(lab)]}
+    folders = {**file_scenes.scenes(lab), **fixed_scenes.scenes(lab)}
+    scenes = {**clock_scenes.scenes(lab), **folders, "kills": [lambda: kills.kills(lab)]}
     if unknown := set(names) - set(scenes):
         sys.exit(f"no such scene: {', '.join(sorted(unknown))}; there are {', '.join(scenes)}")
     parts = [(part, name) for name in names or scenes for part in scenes[name]]
