@@ -284,8 +284,10 @@ NETWORK is an address and how many of its first bits the others share, as 192.0.
 is refused each registration, refresh and overwrite, with RFS_ERR; it may still ask for names. --fixed reads FILE once, at the
 start: lines as `FILER#20 unique 192.0.2.7` and `OFFICE#00 group 192.0.2.9`, of which several of one group are its addresses, up to
 48; up to 1024 names; a line that begins with # is a remark. Such a name is found from the first moment on, with the longest lease
-as its TTL. Its own machine may register, refresh and release it, which changes nothing; nobody else may, with ACT_ERR. Standard
-error says what was refused, as `nbt: refused FILER#20 192.0.2.9: a fixed name`, at most ten lines per second.
+as its TTL. Its own machine may register, refresh and release it, which changes nothing; nobody else may, with ACT_ERR. With --state
+a lease that another machine has of it wins until it ends, or is released: it is found, but not renewed, and the name's own machine
+gets ACT_ERR; standard error says so at the start. It says too what was refused, as `nbt: refused FILER#20 192.0.2.9: a fixed name`,
+at most ten lines per second.
 
 Samba's nmbd registers its names by OPCODE 15, and joins groups by an overwrite. Such a registration of one address, and such an
 overwrite of a group, are accepted as registrations, unless --strict. A machine that registers two addresses isn't served: its
