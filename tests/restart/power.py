@@ -73,6 +73,7 @@ class Hosts:
         self.ports = [self.port(number) for number in range(HOSTS)]
         self.open = {}  # of each port what it asks: the id, the kind, the name and when it was sent
         self.held = {}
+        self.unknown = set()  # names about which a request had no reply: it was taken or not, since a reply that is late is dropped
         self.replies = 0
 
     def port(self, number):
@@ -86,6 +87,8 @@ class Hosts:
         """A host asks for a name, renews one or releases one."""
         self.ids = self.ids % 65535 + 1
         own, name, flags = port.getsockname()[0], f"N{self.draw.randrange(NAMES)}", self.draw.choices(OWN, (5, 3, 2))[0]
+        if port in self.open:
+            self.unknown.add(self.open[port][2])
         self.open[port] = (self.ids, flags, name, time.monotonic())
         port.sendto(packets.request(self.ids, flags, name, packets.UNIQUE, own, LONGEST), SERVER)
 
@@ -100,13 +103,15 @@ class Hosts:
         own = port.getsockname()[0]
         if octets[3] & 0x0F:
             return
+        self.unknown.discard(name)
         if flags != packets.RELEASE:
             self.held[name] = (own, sent + LONGEST)
         elif self.held.get(name, (own,))[0] == own:
             self.held.pop(name, None)
 
     def go_on(self, seconds, asking=True):
-        """They ask for so long, or only take what comes. What got no reply within a second is given up, and stays open until the next."""
+        """They ask for so long, or only take what comes. What got no reply within a second is given up: nothing is known of its name until
+        another request about it is granted."""
         until = time.monotonic() + seconds
         while (now := time.monotonic()) < until:
             for port in self.ports:
@@ -117,7 +122,7 @@ class Hosts:
 
     def wrong(self):
         """What the second server tells otherwise than the replies said, for each name that no request is about."""
-        asked = {name for _, _, name, _ in self.open.values()}
+        asked = {name for _, _, name, _ in self.open.values()} | self.unknown
         return [name for name in (f"N{number}" for number in range(NAMES)) if name not in asked and not self.is_told(name)]
 
     def is_told(self, name):
