@@ -1,49 +1,10 @@
--- The hosts of a status request, one after the other, and what is printed of their answers.
+-- What is printed of the answers of hosts, one after the other.
 use Rattle.std.proofs.Common.{◌≡◌, ℕ, ◌+◌, ◌<◌, max, Bool, List, [], ◌∷◌, ◌++◌, length, take, get_or, Option, refl, sym, subst, ap, ◌∙◌, inr, arith}
 use Rattle.std.specs.Prelude.{nat_eq}
-use Rattle.std.specs.Borrow.{Bor}
 use Rattle.std.proofs.lemmas.List.{append-nil, append_assoc, take_more, take_all}
-use Rattle.nbt_args.specs.declared.texts.LookupTexts.{LookupTexts}
 use Rattle.nbt_text.specs.Lines.{line_feed}
-use Rattle.nbt_admin.specs.Failures.{out_of_memory}
-use Rattle.nbt_admin.specs.Arguments.{AskHostFails}
-use Rattle.nbt_admin.specs.Statuses.{IsAsked, AreAsked, none_asked, one_asked, OthersFail, fronted, fronted_octet, AskedOf, AskedInTurn, asked_next}
+use Rattle.nbt_admin.specs.Statuses.{fronted, fronted_octet, AskedOf, AskedInTurn, asked_next}
 use Rattle.nbt_admin.specs.declared.asking.HostAsked.{HostAsked}
-use Rattle.nbt_admin.specs.declared.failure.Failure.{Failure}
-
--- ---- the requests
-
--- of some hosts the rest is left, and those before it have their requests
-abbrev pub SoFar : LookupTexts → (hosts rest : List (Bor (List ℕ))) → (old requests : List HostAsked) → Type 0
-SoFar first hosts rest old requests = (done : List (Bor (List ℕ))) × (added : List HostAsked) × (hosts ≡ done ++ rest) × AreAsked first done added × (requests ≡ old ++ added)
-
-pub begun : (first : LookupTexts) (hosts : List (Bor (List ℕ))) (old : List HostAsked) → SoFar first hosts hosts old old
-begun first hosts old = ([], [], refl, none_asked, sym (append-nil old))
-
-pub one_on : (first : LookupTexts) (hosts rest others : List (Bor (List ℕ))) (host : Bor (List ℕ)) (old requests new : List HostAsked) (request : HostAsked) → rest ≡ host ∷ others
-    → SoFar first hosts rest old requests → IsAsked first host request → new ≡ requests ++ request ∷ [] → SoFar first hosts others old new
-one_on first hosts rest others host old requests new request parts x asked more = (
-  x.0 ++ host ∷ [],
-  x.1 ++ request ∷ [],
-  x.2 ∙ ap (λ (r : List (Bor (List ℕ))). x.0 ++ r) parts ∙ sym (append_assoc x.0 (host ∷ []) others),
-  one_asked x.0 host x.1 request x.3 asked,
-  more ∙ ap (λ (r : List HostAsked). r ++ request ∷ []) x.4 ∙ append_assoc old x.1 (request ∷ []),
-)
-
-pub all_asked : (first : LookupTexts) (hosts rest : List (Bor (List ℕ))) (old requests : List HostAsked) → rest ≡ [] → SoFar first hosts rest old requests
-    → (added : List HostAsked) × AreAsked first hosts added × (requests ≡ old ++ added)
-all_asked first hosts rest old requests none x = (
-  x.1,
-  subst (λ (hs : List (Bor (List ℕ))). AreAsked first hs x.1) (sym (x.2 ∙ ap (λ (r : List (Bor (List ℕ))). x.0 ++ r) none ∙ append-nil x.0)) x.3,
-  x.4,
-)
-
-pub next_fails : (first : LookupTexts) (hosts rest others : List (Bor (List ℕ))) (host : Bor (List ℕ)) (old requests : List HostAsked) (failure : Failure) → rest ≡ host ∷ others
-    → SoFar first hosts rest old requests → AskHostFails (record first { to = host }) failure → OthersFail first hosts failure
-next_fails first hosts rest others host old requests failure parts x fails =
-    inr (x.0, others, (host, (x.1, x.2 ∙ ap (λ (r : List (Bor (List ℕ))). x.0 ++ r) parts, x.3, fails)))
-
--- ---- the answers
 
 -- one more request
 pub asked_on : (many : Bool) (requests : List HostAsked) (i : ℕ) (d : HostAsked) (status one : ℕ) (old mid text : Option (List ℕ)) → i < length requests

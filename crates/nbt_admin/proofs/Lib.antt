@@ -1,10 +1,7 @@
 -- What several proofs share; the proof of a function is in the folder of its module and its name.
-mod Addresses
 mod Asked
+mod Each
 pub mod Ends
+mod Fixed
 mod Named
-mod Networks
-pub mod Reading
-mod States
-mod Runs
-mod Wanting
+pub mod Takes

@@ -2,7 +2,7 @@
 use Rattle.std.proofs.Common.{◌≡◌, ◌∙◌, ℕ, Bool, true, List, [], ◌∷◌, ◌++◌, inl, inr, sym, subst}
 use Rattle.std.specs.Prelude.{◌⊎◌}
 use Rattle.std.proofs.lemmas.List.{append_cancel_right}
-use Rattle.nbt_admin.specs.Files.{IsNamed, slash}
+use Rattle.nbt_admin.specs.Serving.{IsNamed, slash}
 
 -- what stands before the name
 pub before_name : (name path folder : List ℕ) → path ≡ folder ++ name → IsNamed name path → (folder ≡ []) ⊎ ((rest : List ℕ) × (folder ≡ rest ++ slash ∷ []))

@@ -29,13 +29,13 @@ abbrev pub IsFault : Failure → Type 0
 IsFault (Fault f) = Unit {0}
 IsFault _ = ⊥
 
--- The texts don't hold what they must, which is wrong usage; or it is out of memory.
-abbrev pub UsageFails : (Holds : Type 0) → Failure → Type 0
-UsageFails Holds failure = (failure ≡ out_of_memory) ⊎ (¬ Holds × IsUsage failure)
-
--- it names this text and this fault
-pub record ComplainsOf (text : List ℕ) (fault : ArgumentFault) (failure : Failure) : Type 0 where
+-- this text and this fault
+pub record IsBad (text : List ℕ) (fault : ArgumentFault) (failure : Failure) : Type 0 where
   pub bad : BadArgument
   pub failure_is : failure ≡ Complaint (complaint.Argument bad)
   pub text_is : string_bytes bad.text ≡ text
   pub fault_is : bad.fault ≡ fault
+
+-- the failure has them, unless memory is out
+abbrev pub Reports : (text : List ℕ) → ArgumentFault → Failure → Type 0
+Reports text fault failure = (failure ≡ out_of_memory) ⊎ IsBad text fault failure

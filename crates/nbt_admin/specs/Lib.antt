@@ -1,10 +1,11 @@
-pub mod Arguments
-pub mod Binds
+pub mod Asking
 pub mod Failures
-pub mod Files
 pub mod Fronts
+pub mod Hosting
+pub mod Reading
 pub mod Running
 pub mod Scans
+pub mod Serving
 pub mod Statuses
 pub mod Texts
 pub mod Times

@@ -1,5 +1,5 @@
 -- What a command for people who run a network does on this machine, what it prints, its status, and how it fails (our profile).
-use Rattle.std.specs.Prelude.{◌≡◌, ◌⊎◌, ℕ, nat_lt, Bool, if◌then◌else◌, List, length, Option}
+use Rattle.std.specs.Prelude.{◌≡◌, ◌⊎◌, ℕ, nat_lt, Bool, if◌then◌else◌, List, length, Option, Ok, Err}
 use Rattle.std.specs.Io.KnownBytes.{Appends}
 use Rattle.nbt_args.specs.declared.texts.AdminLine.{AdminLine}
 use Rattle.nbt_args.specs.declared.texts.AdminLine.TheVariants.{Lookup, Status, Nbns, Host, Release, Scan}
@@ -8,17 +8,19 @@ use Rattle.nbt_client.specs.Asking.{AsksHere}
 use Rattle.nbt_client.specs.declared.answer.Answer.{Answer}
 use Rattle.nbt_host.specs.Running.{HostsHere}
 use Rattle.nbt_host.specs.declared.arguments.HostArguments.{HostArguments}
-use Rattle.nbt_state.specs.Running.{RunsServer}
-use Rattle.nbt_state.specs.declared.arguments.ServerArguments.{ServerArguments}
-use Rattle.nbt_admin.specs.Arguments.{AskGiven, AsksServer, LookupFails, HostGiven, HostFails, ReleaseGiven, ReleaseFails, ServerGiven, ServerFails}
+use Rattle.nbt_nbns.specs.Servers.{RunsServer}
+use Rattle.nbt_nbns.specs.declared.arguments.ServerArguments.{ServerArguments}
+use Rattle.nbt_admin.specs.Asking.{ReadsLookup, ReadsStatus}
+use Rattle.nbt_admin.specs.Hosting.{ReadsHost, ReadsRelease}
+use Rattle.nbt_admin.specs.Serving.{ReadsServer}
 use Rattle.nbt_admin.specs.Fronts.{GivesFixed, FixedFails}
 use Rattle.nbt_front.specs.FixedNames.{FixedNames}
-use Rattle.nbt_release.specs.Running.{ReleasesHere}
+use Rattle.nbt_host.specs.ReleaseRunning.{ReleasesHere}
 use Rattle.nbt_admin.specs.Failures.{IsFault}
-use Rattle.nbt_admin.specs.Scans.{ScanGiven, ScanFails}
+use Rattle.nbt_admin.specs.Scans.{ReadsScan}
 use Rattle.nbt_admin.specs.declared.scanning.ScanArguments.{ScanArguments}
 use Rattle.nbt_scan.specs.Running.{ScansHere}
-use Rattle.nbt_admin.specs.Statuses.{StatusGiven, StatusFails, AskedInTurn}
+use Rattle.nbt_admin.specs.Statuses.{AskedInTurn}
 use Rattle.nbt_admin.specs.declared.asking.AskArguments.{AskArguments}
 use Rattle.nbt_admin.specs.declared.asking.HostAsked.{HostAsked}
 use Rattle.nbt_admin.specs.declared.failure.Failure.{Failure}
@@ -55,21 +57,21 @@ pub record ScannedHere (a : ScanArguments) (status : ℕ) (old_text text : Optio
 
 -- the command ran with the arguments that its texts give
 abbrev pub Runs : AdminLine → (status : ℕ) → (old_text text : Option (List ℕ)) → Type 0
-Runs (Lookup texts) status old_text text = (a : AskArguments) × AskGiven AsksServer texts a × AskedHere a status old_text text
-Runs (Status texts) status old_text text = (requests : List HostAsked) × StatusGiven texts requests × AskedInTurn (nat_lt 1 (length requests)) requests status old_text text
-Runs (Nbns texts) status old_text text = (a : ServerArguments) × ServerGiven texts a × (names : FixedNames) × GivesFixed texts.fixed names × (status ≡ 0) × RunsServer (with_fixed names a) old_text text
-Runs (Host texts) status old_text text = (a : HostArguments) × HostGiven texts a × HostedHere a status old_text text
-Runs (Release texts) status old_text text = (a : HostArguments) × ReleaseGiven texts a × ReleasedHere a status old_text text
-Runs (Scan texts) status old_text text = (a : ScanArguments) × ScanGiven texts a × ScannedHere a status old_text text
+Runs (Lookup texts) status old_text text = (a : AskArguments) × ReadsLookup texts (Ok a) × AskedHere a status old_text text
+Runs (Status texts) status old_text text = (requests : List HostAsked) × ReadsStatus texts (Ok requests) × AskedInTurn (nat_lt 1 (length requests)) requests status old_text text
+Runs (Nbns texts) status old_text text = (a : ServerArguments) × ReadsServer texts (Ok a) × (names : FixedNames) × GivesFixed texts.fixed names × (status ≡ 0) × RunsServer (with_fixed names a) old_text text
+Runs (Host texts) status old_text text = (a : HostArguments) × ReadsHost texts (Ok a) × HostedHere a status old_text text
+Runs (Release texts) status old_text text = (a : HostArguments) × ReadsRelease texts (Ok a) × ReleasedHere a status old_text text
+Runs (Scan texts) status old_text text = (a : ScanArguments) × ReadsScan texts (Ok a) × ScannedHere a status old_text text
 
 -- the first argument that is wrong is reported
 abbrev pub Refuses : AdminLine → Failure → Type 0
-Refuses (Lookup texts) failure = LookupFails texts failure
-Refuses (Status texts) failure = StatusFails texts failure
-Refuses (Nbns texts) failure = ServerFails texts failure
-Refuses (Host texts) failure = HostFails texts failure
-Refuses (Release texts) failure = ReleaseFails texts failure
-Refuses (Scan texts) failure = ScanFails texts failure
+Refuses (Lookup texts) failure = ReadsLookup texts (Err failure)
+Refuses (Status texts) failure = ReadsStatus texts (Err failure)
+Refuses (Nbns texts) failure = ReadsServer texts (Err failure)
+Refuses (Host texts) failure = ReadsHost texts (Err failure)
+Refuses (Release texts) failure = ReadsRelease texts (Err failure)
+Refuses (Scan texts) failure = ReadsScan texts (Err failure)
 
 -- a line of the file of fixed names is wrong
 abbrev pub RefusesFile : AdminLine → Failure → Type 0

@@ -1,17 +1,12 @@
 //! Reads the arguments of `lookup` and `status`.
 
-ghost use Rattle.std.specs.Prelude.{◌≡◌, ◌≤◌, ◌↔◌, ◌++◌, List, OnOk, IfOk, IfErr, codes};
-ghost use Rattle.nbt_client.specs.Asking.{tries_most};
-ghost use Rattle.nbt_admin.specs.Times.{IsWait, SpellsPatience};
-ghost use Rattle.nbt_admin.specs.Failures.{UsageFails};
-ghost use Rattle.nbt_admin.specs.Arguments.{AskGiven, AsksServer, AsksHost, AskHostFails, LookupFails};
-ghost use Rattle.nbt_admin.specs.Statuses.{AreAsked, OthersFail, StatusGiven, StatusFails};
-ghost use Rattle.nbt_admin.specs.declared.asking.HostAsked.{HostAsked as Asked};
-ghost use Rattle.nbt_text.specs.Address.{SpellsSource};
-ghost use Rattle.nbt_admin.specs.Texts.{SourceFails, SpellEnds, EndsFail};
+ghost use Rattle.std.specs.Prelude.{Ok, Err, IfOk, IfErr};
+ghost use Rattle.nbt_admin.specs.Times.{ReadsPatience, AreTries};
+ghost use Rattle.nbt_admin.specs.Asking.{ReadsLookup, ReadsStatus, AsksHost};
 
 use crate::failure::{ArgumentFault, Failure};
 use crate::naming::{apart, expect_no_address, name_of, name_to_ask, peer_of, source_of};
+use crate::reading::{ReadEach, read_each};
 use crate::timing::parse_between;
 use nbt_args::{LimitedArgument, LimitedCommand, LookupTexts, StatusTexts};
 use nbt_client::{Question, TRIES_MOST, patience_of};
@@ -36,11 +31,12 @@ pub struct HostAsked<'a> {
 /// Reads the arguments of `lookup`. Refused, in this order: a wait beyond its limits, which is wrong usage, the server's address, which is of
 /// one machine and has a port, the own address, one that is both, a name that is an address, and the name, which doesn't begin with `*`.
 pub fn lookup_arguments(alloc: Global, texts: &LookupTexts<'_>) -> Result<AskArguments, Failure>
-    ensures given { IfOk result (AskGiven AsksServer texts.now) }
-    ensures failure { IfErr result (LookupFails texts.now) }
+    ensures { ReadsLookup texts.now result }
 {
     let patience = patience(alloc, LimitedCommand::Lookup, texts.tries, texts.wait)?;
-    let (server, bind) = ends_of(alloc, texts.to, texts.bind)?;
+    let server = peer_of(alloc, texts.to)?;
+    let bind = source_of(alloc, texts.bind)?;
+    apart(alloc, texts.to, server, bind)?;
     expect_no_address(alloc, texts.name, ArgumentFault::NameWanted)?;
     let name = name_to_ask(alloc, texts.exact, texts.name, texts.scope)?;
     let question = Question::Holders(server, name);
@@ -57,49 +53,53 @@ pub fn status_requests<'a>(
     alloc: Global,
     texts: &StatusTexts<'a>,
 ) -> Result<Vec<HostAsked<'a>>, Failure>
-    ensures given { IfOk result (λ requests. StatusGiven texts.now requests.items) }
-    ensures failure { IfErr result (StatusFails texts.now) }
+    ensures given { IfOk result (λ requests. ReadsStatus texts.now (Ok requests.items)) }
+    ensures failure { IfErr result (λ failure. ReadsStatus texts.now (Err failure)) }
 {
-    let arguments = status_arguments(alloc, &texts.first)?;
-    let host = texts.first.to;
+    let hosts = Hosts { first: texts.first };
     let mut requests = Vec::new(alloc);
-    requests.push(HostAsked { host, arguments })?;
-    add_requests(alloc, &texts.first, texts.others.as_slice(), &mut requests)?;
-    Ok(requests)
+    let request = hosts.read(alloc, &[], texts.first.to)?;
+    requests.push(request)?;
+    read_each(alloc, &hosts, requests, texts.others.as_slice())
 }
 
-/// Reads the addresses of further hosts, and appends the requests to them, which are sent what the first host is.
-fn add_requests<'a>(
-    alloc: Global,
-    first: &LookupTexts<'a>,
-    hosts: &[&'a str],
-    requests: &mut Vec<HostAsked<'a>>,
-) -> Result<(), Failure>
-    ensures added { OnOk result ((added : List Asked) × AreAsked first.now hosts.now added × (requests.new.items ≡ requests.old.items ++ added)) }
-    ensures failure { IfErr result (OthersFail first.now hosts.now) }
-{
-    for host in hosts {
+/// Reads the addresses of hosts, which are sent what the first host is.
+#[derive(Clone, Copy)]
+struct Hosts<'a> {
+    first: LookupTexts<'a>,
+}
+
+impl<'a> ReadEach<'a> for Hosts<'a> {
+    ghost use Rattle.nbt_admin.specs.Asking.{ReadsHost};
+
+    type Value = HostAsked<'a>;
+
+    ghost reads = { λ hosts before host. ReadsHost hosts.first before host };
+
+    fn read(
+        &self,
+        alloc: Global,
+        _before: &[HostAsked<'a>],
+        host: &'a str,
+    ) -> Result<HostAsked<'a>, Failure> {
         let texts = LookupTexts {
-            to: *host,
-            ..*first
+            to: host,
+            ..self.first
         };
         let arguments = status_arguments(alloc, &texts)?;
-        requests.push(HostAsked {
-            host: *host,
-            arguments,
-        })?;
+        Ok(HostAsked { host, arguments })
     }
-    Ok(())
 }
 
 /// Reads the arguments of a status request to one host. Refused as those of `lookup` are, with the host's address in place of the server's. Any
 /// name is valid that is no address.
 fn status_arguments(alloc: Global, texts: &LookupTexts<'_>) -> Result<AskArguments, Failure>
-    ensures given { IfOk result (AskGiven AsksHost texts.now) }
-    ensures failure { IfErr result (AskHostFails texts.now) }
+    ensures { AsksHost texts.now result }
 {
     let patience = patience(alloc, LimitedCommand::Status, texts.tries, texts.wait)?;
-    let (host, bind) = ends_of(alloc, texts.to, texts.bind)?;
+    let host = peer_of(alloc, texts.to)?;
+    let bind = source_of(alloc, texts.bind)?;
+    apart(alloc, texts.to, host, bind)?;
     expect_no_address(alloc, texts.name, ArgumentFault::OtherHost)?;
     let name = name_of(alloc, texts.exact, texts.name, texts.scope)?;
     let question = Question::Names(host, name);
@@ -110,37 +110,20 @@ fn status_arguments(alloc: Global, texts: &LookupTexts<'_>) -> Result<AskArgumen
     })
 }
 
-/// Reads the address that is asked, and the own one, which is another.
-#[tactic(auto, using(crate::proofs::Ends::one_end))]
-fn ends_of(alloc: Global, to: &str, bind: &str) -> Result<(Addr, Addr), Failure>
-    ensures read { IfOk result (λ ends. SpellEnds SpellsSource to.now bind.now ends.0 ends.1) }
-    ensures failure { IfErr result (EndsFail SpellsSource SourceFails to.now bind.now) }
-{
-    let peer = peer_of(alloc, to)?;
-    let own = source_of(alloc, bind)?;
-    apart(alloc, to, peer, own)?;
-    Ok((peer, own))
-}
-
 /// Returns for how many milliseconds a request waits, with its repetitions.
 fn patience(alloc: Global, command: LimitedCommand, tries: &str, wait: &str) -> Result<u32, Failure>
-    ensures read { IfOk result (SpellsPatience tries.now wait.now) }
-    ensures limits { IfOk result (λ _. IsWait wait.now) }
-    ensures failure { IfErr result (UsageFails (IsWait wait.now)) }
+    ensures { ReadsPatience tries.now wait.now result }
 {
     let limits = LimitedArgument::Wait;
     match parse_between(wait, limits.least(), limits.most()) {
         Some(last) => Ok(patience_of(tries_of(tries), last as u32)),
-        None => Err(nbt_args::bad_value(alloc, command, limits, wait))?,
+        None => Err(Failure::from(nbt_args::bad_value(alloc, command, limits, wait))),
     }
 }
 
 /// Returns the number of requests that TRIES names.
 pub(crate) fn tries_of(text: &str) -> u32
-    ensures once { (result ≡ 1) ↔ (text.now ≡ codes "1") }
-    ensures twice { (result ≡ 2) ↔ (text.now ≡ codes "2") }
-    ensures tries_at_least { 1 ≤ result }
-    ensures tries_at_most { result ≤ tries_most }
+    ensures { AreTries text.now result }
 {
     match text {
         nbt_args::ONCE => 1,

@@ -1,10 +1,11 @@
 //! Reads the addresses that a name server is to serve.
 
-ghost use Rattle.std.specs.Prelude.{◌≡◌, ◌↔◌, IsTrue, IfOk, IfErr};
-ghost use Rattle.nbt_admin.specs.Binds.{AreAddresses, BindFails, GivesBind, IsAmong, name_port};
+ghost use Rattle.std.specs.Prelude.{◌≡◌, ◌↔◌, Any, IsTrue};
+ghost use Rattle.nbt_admin.specs.Serving.{ReadsBind};
 
 use crate::failure::{ArgumentFault, Failure};
 use crate::naming::address_of;
+use crate::reading::{ReadEach, read_each};
 use nbt_name::Addr;
 use nbt_port::Bind;
 use std::alloc::Global;
@@ -14,37 +15,40 @@ const NAME_PORT: u16 = 137;
 
 /// Reads which addresses a server is to serve: every address of the machine, at port 137, where there is no text. Refused at the first
 /// text that is no address, or repeats one.
-pub fn bind_of(alloc: Global, texts: &Vec<&str>) -> Result<Bind, Failure>
-    ensures read { IfOk result (GivesBind texts.now.items) }
-    ensures failure { IfErr result (BindFails texts.now.items) }
+pub fn bind_of(alloc: Global, texts: &[&str]) -> Result<Bind, Failure>
+    ensures { ReadsBind texts.now result }
 {
-    let texts = texts.as_slice();
-    if texts.is_empty() {
+    let addresses = read_each(alloc, &Addresses, Vec::new(alloc), texts)?;
+    let found = addresses.as_slice();
+    if found.is_empty() {
         return Ok(Bind::Every(NAME_PORT));
     }
-    let addresses = addresses_of(alloc, texts)?;
     Ok(Bind::To(addresses))
 }
 
 /// Reads addresses, of which no two are the same.
-fn addresses_of(alloc: Global, texts: &[&str]) -> Result<Vec<Addr>, Failure>
-    ensures read { IfOk result (λ found. AreAddresses texts.now found.items) }
-    ensures failure { IfErr result (BindFails texts.now) }
-{
-    let mut addresses = Vec::new(alloc);
-    for text in texts {
+#[derive(Clone, Copy)]
+struct Addresses;
+
+impl<'a> ReadEach<'a> for Addresses {
+    ghost use Rattle.nbt_admin.specs.Serving.{ReadsNext};
+
+    type Value = Addr;
+
+    ghost reads = { λ _ before text. ReadsNext before text };
+
+    fn read(&self, alloc: Global, before: &[Addr], text: &'a str) -> Result<Addr, Failure> {
         let address = address_of(alloc, text)?;
-        if is_among(address, addresses.as_slice()) {
+        if is_among(address, before) {
             return Err(Failure::of_argument(alloc, text, ArgumentFault::AddressTwice));
         }
-        addresses.push(address)?;
+        Ok(address)
     }
-    Ok(addresses)
 }
 
 /// Whether one of them is this address.
 fn is_among(address: Addr, addresses: &[Addr]) -> bool
-    ensures { IsTrue result ↔ IsAmong address addresses.now }
+    ensures { IsTrue result ↔ Any (λ other. other ≡ address) addresses.now }
 {
     addresses.iter().any(|other| *other == address)
 }

@@ -1,10 +1,11 @@
 //! Why a command for people who run a network failed.
 
-ghost use Rattle.std.specs.Prelude.{◌≡◌, ◌⊎◌};
+ghost use Rattle.std.specs.Prelude.{◌≡◌};
 
 use crate::hosting::NAMES_MOST;
 use crate::reason::why_no_address;
-use nbt_args::{NoUnit, Refusal, Text};
+use crate::scanning::{PORT_MOST, RATE_MOST};
+use nbt_args::{LimitedArgument, NoUnit, Refusal, Text};
 use nbt_front::LineFault;
 use nbt_lease::{Config, LIFE_MOST, LONGEST_MOST, ROWS_MOST};
 use nbt_nbns::write_refusal;
@@ -166,9 +167,18 @@ impl fmt::Display for ArgumentFault {
             ArgumentFault::Bits => f.write_str("not from /16 to /32"),
             ArgumentFault::Backwards => f.write_str("its last address is before its first"),
             ArgumentFault::NotEachOne => f.write_str("it has an address that isn't of one machine"),
-            ArgumentFault::Rate => f.write_str("not a whole number from 1 to 10000"),
-            ArgumentFault::Wait => f.write_str("not a time from 1ms to 5s"),
-            ArgumentFault::Port => f.write_str("not a whole number from 1 to 65535"),
+            ArgumentFault::Rate => {
+                let most = RATE_MOST;
+                write!(f, "not a whole number from 1 to {most}")
+            }
+            ArgumentFault::Wait => {
+                let limits = LimitedArgument::Wait;
+                write!(f, "not {limits}")
+            }
+            ArgumentFault::Port => {
+                let most = PORT_MOST;
+                write!(f, "not a whole number from 1 to {most}")
+            }
         }
     }
 }
@@ -291,11 +301,11 @@ pub enum Failure {
 }
 
 impl Failure {
-    ghost use Rattle.nbt_admin.specs.Failures.{ComplainsOf, out_of_memory};
+    ghost use Rattle.nbt_admin.specs.Failures.{Reports};
 
     /// Makes the failure for an invalid argument, or out of memory.
     pub(crate) fn of_argument(alloc: Global, text: &str, fault: ArgumentFault) -> Failure
-        ensures { (result ≡ out_of_memory) ⊎ ComplainsOf text.now fault result }
+        ensures { Reports text.now fault result }
     {
         match String::from_str(alloc, text) {
             Ok(owned) => Failure::Complaint(Complaint::Argument(BadArgument {

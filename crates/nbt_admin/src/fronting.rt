@@ -2,10 +2,10 @@
 
 ghost use Rattle.std.specs.Prelude.{◌⊎◌, IfOk, IfErr};
 ghost use Rattle.nbt_admin.specs.Failures.{IsFault};
-ghost use Rattle.nbt_admin.specs.Fronts.{AllowFails, AreNetworks, FixedFails, GivesFixed, NetworkFails};
-ghost use Rattle.nbt_front.specs.Networks.{SpellsNetwork};
+ghost use Rattle.nbt_admin.specs.Fronts.{FixedFails, GivesFixed};
 
 use crate::failure::{ArgumentFault, BadLine, Complaint, Failure};
+use crate::reading::ReadEach;
 use nbt_front::{FileFault, FixedNames, Network, read_fixed, read_network};
 use nbt_port::Fault;
 use std::alloc::Global;
@@ -17,27 +17,22 @@ use std::rt::Files;
 /// The most octets of a file of fixed names (our profile).
 const FILE_MOST: u64 = 1 << 22;
 
-/// Reads networks. Refused at the first text that is none.
-pub(crate) fn networks_of(alloc: Global, texts: &[&str]) -> Result<Vec<Network>, Failure>
-    ensures read { IfOk result (λ found. AreNetworks texts.now found.items) }
-    ensures failure { IfErr result (AllowFails texts.now) }
-{
-    let mut networks = Vec::new(alloc);
-    for text in texts {
-        let network = network_of(alloc, text)?;
-        networks.push(network)?;
-    }
-    Ok(networks)
-}
+/// Reads networks.
+#[derive(Clone, Copy)]
+pub(crate) struct Networks;
 
-/// Reads a network.
-fn network_of(alloc: Global, text: &str) -> Result<Network, Failure>
-    ensures read { IfOk result (SpellsNetwork text.now) }
-    ensures failure { IfErr result (NetworkFails text.now) }
-{
-    match read_network(text.as_bytes()) {
-        Some(network) => Ok(network),
-        None => Err(Failure::of_argument(alloc, text, ArgumentFault::Network)),
+impl<'a> ReadEach<'a> for Networks {
+    ghost use Rattle.nbt_admin.specs.Serving.{ReadsNetwork};
+
+    type Value = Network;
+
+    ghost reads = { λ _ before text. ReadsNetwork before text };
+
+    fn read(&self, alloc: Global, _before: &[Network], text: &'a str) -> Result<Network, Failure> {
+        match read_network(text.as_bytes()) {
+            Some(network) => Ok(network),
+            None => Err(Failure::of_argument(alloc, text, ArgumentFault::Network)),
+        }
     }
 }
 

@@ -1,9 +1,7 @@
 //! Reads addresses and names.
 
-ghost use Rattle.std.specs.Prelude.{◌≡◌, ◌≢◌, ◌⊎◌, ◌↔◌, ◌≤◌, IfOk, IfErr, IsTrue, OnOk};
-ghost use Rattle.nbt_text.specs.Address.{SpellsEnd, SpellsSource};
-ghost use Rattle.nbt_admin.specs.Failures.{ComplainsOf, out_of_memory};
-ghost use Rattle.nbt_admin.specs.Texts.{case_of, AddressFails, AddressInstead, IsAddress, SourceFails, IsOfOne, AreOfOne, SpellsPeer, PeerFails, SpellsOwn, OwnFails, SpellsAsked, NameFails, SpellsSought, SoughtFails};
+ghost use Rattle.std.specs.Prelude.{◌≡◌, ◌↔◌, ◌≤◌, IsTrue};
+ghost use Rattle.nbt_admin.specs.Texts.{case_of, IsOfOne, AreOfOne, NeedsApart, NeedsName, ReadsAddress, ReadsSource, ReadsPeer, ReadsOwn, ReadsName, ReadsSought};
 
 use crate::failure::{ArgumentFault, Failure};
 use nbt_name::{Addr, Name};
@@ -20,8 +18,7 @@ const ALL: u32 = 0xFFFF_FFFF;
 
 /// Reads an address.
 pub fn address_of(alloc: Global, text: &str) -> Result<Addr, Failure>
-    ensures read { IfOk result (SpellsEnd text.now) }
-    ensures failure { IfErr result (AddressFails text.now) }
+    ensures { ReadsAddress text.now result }
 {
     match read_address(alloc, text)? {
         Some(end) => Ok(end),
@@ -31,8 +28,7 @@ pub fn address_of(alloc: Global, text: &str) -> Result<Addr, Failure>
 
 /// Reads an address from which requests are sent.
 pub fn source_of(alloc: Global, text: &str) -> Result<Addr, Failure>
-    ensures read { IfOk result (SpellsSource text.now) }
-    ensures failure { IfErr result (SourceFails text.now) }
+    ensures { ReadsSource text.now result }
 {
     match read_source(alloc, text)? {
         Some(source) => Ok(source),
@@ -41,10 +37,8 @@ pub fn source_of(alloc: Global, text: &str) -> Result<Addr, Failure>
 }
 
 /// Reads an address to which requests can be sent. Refused, after what is no address: one that isn't of one machine, and port 0.
-#[tactic(auto, using(crate::proofs::Ends::not_of_one, crate::proofs::Ends::at_port_0))]
 pub fn peer_of(alloc: Global, text: &str) -> Result<Addr, Failure>
-    ensures read { IfOk result (SpellsPeer text.now) }
-    ensures failure { IfErr result (PeerFails text.now) }
+    ensures { ReadsPeer text.now result }
 {
     let peer = address_of(alloc, text)?;
     if !is_of_one(peer.ip) {
@@ -56,10 +50,20 @@ pub fn peer_of(alloc: Global, text: &str) -> Result<Addr, Failure>
     Ok(peer)
 }
 
+/// Reads an address at which other hosts reach this machine: that of one machine.
+pub fn own_of(alloc: Global, text: &str) -> Result<Addr, Failure>
+    ensures { ReadsOwn text.now result }
+{
+    let own = address_of(alloc, text)?;
+    if !is_of_one(own.ip) {
+        return Err(Failure::of_argument(alloc, text, ArgumentFault::Anywhere));
+    }
+    Ok(own)
+}
+
 /// Refuses to send requests to the own address, by the text of the other one.
 pub fn apart(alloc: Global, text: &str, peer: Addr, own: Addr) -> Result<(), Failure>
-    ensures apart { IfOk result (λ _. peer ≢ own) }
-    ensures failure { IfErr result (λ failure. (peer ≡ own) × ((failure ≡ out_of_memory) ⊎ ComplainsOf text.now ArgumentFault.Itself failure)) }
+    ensures { NeedsApart text.now peer own result }
 {
     if peer == own {
         return Err(Failure::of_argument(alloc, text, ArgumentFault::Itself));
@@ -69,8 +73,7 @@ pub fn apart(alloc: Global, text: &str, peer: Addr, own: Addr) -> Result<(), Fai
 
 /// Refuses, with this fault, an address where a name is wanted.
 pub fn expect_no_address(alloc: Global, text: &str, fault: ArgumentFault) -> Result<(), Failure>
-    ensures named { OnOk result (¬ IsAddress text.now) }
-    ensures failure { IfErr result (AddressInstead fault text.now) }
+    ensures { NeedsName fault text.now result }
 {
     match read_address(alloc, text)? {
         Some(_) => Err(Failure::of_argument(alloc, text, fault)),
@@ -95,23 +98,9 @@ pub fn are_of_one(first: u32, last: u32) -> bool
     first != 0 && (last < MULTICAST_FIRST || (MULTICAST_END <= first && last < ALL))
 }
 
-/// Reads an address at which other hosts reach this machine: that of one machine.
-#[tactic(auto, using(crate::proofs::Ends::found_by_nobody))]
-pub fn own_of(alloc: Global, text: &str) -> Result<Addr, Failure>
-    ensures read { IfOk result (SpellsOwn text.now) }
-    ensures failure { IfErr result (OwnFails text.now) }
-{
-    let own = address_of(alloc, text)?;
-    if !is_of_one(own.ip) {
-        return Err(Failure::of_argument(alloc, text, ArgumentFault::Anywhere));
-    }
-    Ok(own)
-}
-
 /// Reads a name, with this scope if none stands behind its suffix.
 pub fn name_of(alloc: Global, exact: bool, text: &str, scope: &str) -> Result<Name, Failure>
-    ensures read { IfOk result (SpellsAsked exact scope.now text.now) }
-    ensures failure { IfErr result (NameFails exact scope.now text.now) }
+    ensures { ReadsName exact scope.now text.now result }
 {
     let case = case_of(exact);
     match read_scoped_name(case, text.as_bytes(), scope.as_bytes()) {
@@ -122,8 +111,7 @@ pub fn name_of(alloc: Global, exact: bool, text: &str, scope: &str) -> Result<Na
 
 /// Reads a name that can be requested from a server: it doesn't begin with `*`.
 pub fn name_to_ask(alloc: Global, exact: bool, text: &str, scope: &str) -> Result<Name, Failure>
-    ensures read { IfOk result (SpellsSought exact scope.now text.now) }
-    ensures failure { IfErr result (SoughtFails exact scope.now text.now) }
+    ensures { ReadsSought exact scope.now text.now result }
 {
     let name = name_of(alloc, exact, text, scope)?;
     if name.is_star() {

@@ -2,7 +2,7 @@
 
 ghost use Rattle.std.specs.Prelude.{◌≡◌, ◌≤◌, IfOk, OnOk, IfErr};
 ghost use Rattle.std.specs.Io.KnownBytes.{Appends};
-ghost use Rattle.nbt_state.specs.Running.{RunsServer};
+ghost use Rattle.nbt_nbns.specs.Servers.{RunsServer};
 ghost use Rattle.nbt_scan.specs.Plans.{IsPlan};
 ghost use Rattle.nbt_admin.specs.Running.{Runs, Refuses, Stops, AskedHere, HostedHere, ReleasedHere, ScannedHere};
 
@@ -15,13 +15,11 @@ use crate::serving::server_arguments;
 use crate::statuses::ask_all;
 use nbt_args::AdminLine;
 use nbt_client::ask_here;
-use nbt_host::{HostArguments, run_host};
+use nbt_host::{HostArguments, run_host, run_release};
 use nbt_lease::Config;
-use nbt_nbns::{Judged, judge, write_warning};
+use nbt_nbns::{Judged, ServerArguments, judge, run_server, write_warning};
 use nbt_port::Fault;
-use nbt_release::run_release;
 use nbt_scan::run_scan;
-use nbt_state::{ServerArguments, run_server};
 use std::alloc::Global;
 use std::fs::File;
 use std::io::Write;

@@ -1,29 +1,27 @@
 //! Reads the arguments of `scan`.
 
-ghost use Rattle.std.specs.Prelude.{◌≡◌, ◌<◌, ◌^◌, IfOk, IfErr};
+ghost use Rattle.std.specs.Prelude.{◌≡◌, ◌<◌, ◌^◌, IfOk};
 ghost use Rattle.nbt_scan.specs.Plans.{IsPlan};
-ghost use Rattle.nbt_scan.specs.Words.{SpellsWithin};
-ghost use Rattle.nbt_admin.specs.Scans.{ScanGiven, ScanFails, UpToFails, WaitFails, form_of};
-ghost use Rattle.nbt_admin.specs.Times.{SpellsWait};
+ghost use Rattle.nbt_admin.specs.Scans.{ReadsScan, ReadsUpTo, ReadsWait, form_of};
 
 use crate::asking::tries_of;
-use crate::failure::{ArgumentFault, Complaint, Failure};
+use crate::failure::{ArgumentFault, Failure};
 use crate::naming::source_of;
 use crate::spans::spans_of;
 use crate::timing::parse_between;
 use nbt_args::ScanTexts;
 use nbt_name::Addr;
-use nbt_scan::{Form, Layout, Plan, addresses_of, are_few, number_within};
+use nbt_scan::{Form, Layout, Plan, addresses_of, number_within};
 use std::alloc::Global;
 
 /// The most requests in a second (our profile).
-const RATE_MOST: u64 = 10_000;
+pub(crate) const RATE_MOST: u64 = 10_000;
 
 /// The longest wait after a pass, in milliseconds (our profile).
 const WAIT_MOST: u64 = 5_000;
 
 /// The greatest port.
-const PORT_MOST: u64 = 65_535;
+pub(crate) const PORT_MOST: u64 = 65_535;
 
 /// The arguments of a scan: the own address, what it is to do, how it prints, and whether it says how far it is.
 #[derive(Drop)]
@@ -37,9 +35,8 @@ pub struct ScanArguments {
 /// Reads the arguments of `scan`. Refused, in this order: the rate, the wait, the port, the own address, the networks, ranges and addresses,
 /// and if these are too many.
 pub fn scan_arguments(alloc: Global, texts: &ScanTexts<'_>) -> Result<ScanArguments, Failure>
-    ensures given { IfOk result (ScanGiven texts.now) }
+    ensures reads { ReadsScan texts.now result }
     ensures sound { IfOk result (λ a. IsPlan a.plan) }
-    ensures failure { IfErr result (ScanFails texts.now) }
 {
     let rate = number_of(alloc, texts.rate, RATE_MOST, ArgumentFault::Rate)?;
     let wait = wait_of(alloc, texts.wait)?;
@@ -47,9 +44,6 @@ pub fn scan_arguments(alloc: Global, texts: &ScanTexts<'_>) -> Result<ScanArgume
     let bind = source_of(alloc, texts.bind)?;
     let spans = spans_of(alloc, texts.addresses.as_slice())?;
     let runs = spans.as_slice();
-    if !are_few(runs) {
-        return Err(Failure::Complaint(Complaint::ManyAddresses));
-    }
     let ips = addresses_of(alloc, runs)?;
     let plan = Plan {
         ips,
@@ -73,8 +67,7 @@ pub fn scan_arguments(alloc: Global, texts: &ScanTexts<'_>) -> Result<ScanArgume
 /// Reads a whole number from 1 to `most`.
 fn number_of(alloc: Global, text: &str, most: u64, fault: ArgumentFault) -> Result<u32, Failure>
     requires { most < 2 ^ 32 }
-    ensures read { IfOk result (SpellsWithin 1 most text.now) }
-    ensures failure { IfErr result (UpToFails most fault text.now) }
+    ensures { ReadsUpTo most fault text.now result }
 {
     match number_within(text, 1, most) {
         Some(number) => Ok(number as u32),
@@ -84,8 +77,7 @@ fn number_of(alloc: Global, text: &str, most: u64, fault: ArgumentFault) -> Resu
 
 /// Reads for how long replies are waited for, in milliseconds.
 fn wait_of(alloc: Global, text: &str) -> Result<u32, Failure>
-    ensures read { IfOk result (SpellsWait text.now) }
-    ensures failure { IfErr result (WaitFails text.now) }
+    ensures { ReadsWait text.now result }
 {
     match parse_between(text, 1, WAIT_MOST) {
         Some(wait) => Ok(wait as u32),

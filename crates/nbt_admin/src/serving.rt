@@ -1,29 +1,28 @@
 //! Reads the arguments of `nbns`.
 
-ghost use Rattle.std.specs.Prelude.{◌≡◌, ◌↔◌, [], IsTrue, IfOk, IfErr, OnOk};
-ghost use Rattle.std.specs.Option.{option_map};
-ghost use Rattle.std.specs.String.{string_bytes};
-ghost use Rattle.nbt_admin.specs.Arguments.{NbnsGiven, NbnsFails, ServerGiven, ServerFails, GivesState, StateFails};
-ghost use Rattle.nbt_admin.specs.Texts.{IsPath, PathFails};
-ghost use Rattle.nbt_admin.specs.Files.{GivesFiles, FilesFail, AreApart, TwiceFails, AreBeside, BesideFails, AreFree, NotFree, IsFree, FreeFails, IsNamed, IsStores};
+ghost use Rattle.std.specs.Prelude.{◌≡◌, ◌≢◌, ◌↔◌, [], None, Ok, Err, IsTrue, IfErr, OnOk};
+ghost use Rattle.nbt_admin.specs.Reading.{Fits, IfGiven};
+ghost use Rattle.nbt_admin.specs.Serving.{AreApart, TwiceFails, path_of, IsNamed, IsStores, NeedsFree, ReadsFiles, ReadsFolder, ReadsNbns, ReadsPath, ReadsServer};
 
 use crate::binding::bind_of;
 use crate::failure::{ArgumentFault, Failure};
-use crate::fronting::networks_of;
+use crate::fronting::Networks;
+use crate::reading::read_each;
 use crate::timing::{client_rows_of, config_of, ending_of, fit};
 use nbt_args::NbnsTexts;
 use nbt_front::{FixedNames, Front, Network};
-use nbt_nbns::NbnsArguments;
-use nbt_state::{ServerArguments, StateFolder};
+use nbt_nbns::{NbnsArguments, ServerArguments, StateFolder};
 use std::alloc::Global;
+
+/// How many live leases a client may have, without an argument (our profile).
+const CLIENT_ROWS: u32 = 64;
 
 /// Reads the arguments of `nbns`. Refused, in this order: the first text that is no network, an empty path of the file of fixed names, and then
 /// as [`nbns_arguments`] has it. No name is fixed yet.
 pub fn server_arguments(alloc: Global, texts: &NbnsTexts<'_>) -> Result<ServerArguments, Failure>
-    ensures given { IfOk result (ServerGiven texts.now) }
-    ensures failure { IfErr result (ServerFails texts.now) }
+    ensures { ReadsServer texts.now result }
 {
-    let allowed = networks_of(alloc, texts.allow.as_slice())?;
+    let allowed = read_each(alloc, &Networks, Vec::new(alloc), texts.allow.as_slice())?;
     expect_path(alloc, texts.fixed, ArgumentFault::NoFixed)?;
     nbns_arguments(alloc, texts, allowed)
 }
@@ -36,18 +35,16 @@ fn nbns_arguments(
     texts: &NbnsTexts<'_>,
     allowed: Vec<Network>,
 ) -> Result<ServerArguments, Failure>
-    ensures given { IfOk result (NbnsGiven texts.now) }
-    ensures front { IfOk result (λ a. a.nbns.front ≡ record { allowed = allowed.items; fixed = []; longest = a.nbns.config.longest }) }
-    ensures failure { IfErr result (NbnsFails texts.now) }
+    ensures { ReadsNbns texts.now allowed.items result }
 {
     let config = config_of(alloc, texts.life, texts.longest)?;
     let time = ending_of(alloc, texts.time)?;
     fit(config)?;
-    let bind = bind_of(alloc, &texts.binds)?;
+    let bind = bind_of(alloc, texts.binds.as_slice())?;
     let state = state_of(alloc, texts.state, texts.silent_after_boot)?;
     let files = files_of(alloc, texts)?;
     expect_beside(alloc, texts)?;
-    let rows_per_client = client_rows_of(alloc, texts.rows_per_client)?;
+    let rows = client_rows_of(alloc, texts.rows_per_client)?;
     Ok(ServerArguments {
         nbns: NbnsArguments {
             bind,
@@ -59,7 +56,7 @@ fn nbns_arguments(
             hosts: files.hosts,
             stats: files.stats,
             strict: texts.strict,
-            rows_per_client,
+            rows_per_client: rows.unwrap_or(CLIENT_ROWS),
             front: Front::new(allowed, FixedNames::none(alloc), config),
         },
         state,
@@ -72,20 +69,25 @@ fn state_of(
     text: Option<&str>,
     silent_after_boot: bool,
 ) -> Result<Option<StateFolder>, Failure>
-    ensures given { IfOk result (GivesState text.entry silent_after_boot) }
-    ensures failure { IfErr result (StateFails text.entry) }
+    ensures { IfGiven (ReadsFolder silent_after_boot) text.entry result }
 {
-    let Some(text) = text else {
-        return Ok(None);
-    };
+    match text {
+        Some(text) => Ok(Some(folder_of(alloc, text, silent_after_boot)?)),
+        None => Ok(None),
+    }
+}
+
+fn folder_of(alloc: Global, text: &str, silent_after_boot: bool) -> Result<StateFolder, Failure>
+    ensures { ReadsFolder silent_after_boot text.now result }
+{
     if text.is_empty() {
         return Err(Failure::of_argument(alloc, text, ArgumentFault::Folder));
     }
     let path = String::from_str(alloc, text)?;
-    Ok(Some(StateFolder {
+    Ok(StateFolder {
         path,
         silent_after_boot,
-    }))
+    })
 }
 
 /// The paths of the files that a server keeps, if any.
@@ -99,12 +101,11 @@ struct Files {
 /// Reads which files a server keeps. Refused, in this order: an empty path of the list of leases, of the hosts, of the statistics; and
 /// the first path that an earlier one of them is too.
 fn files_of(alloc: Global, texts: &NbnsTexts<'_>) -> Result<Files, Failure>
-    ensures given { IfOk result (λ files. GivesFiles texts.now files.leases files.hosts files.stats) }
-    ensures failure { IfErr result (FilesFail texts.now) }
+    ensures { ReadsFiles texts.now result }
 {
-    let leases = path_of(alloc, texts.leases, ArgumentFault::NoPath)?;
-    let hosts = path_of(alloc, texts.hosts, ArgumentFault::NoHosts)?;
-    let stats = path_of(alloc, texts.stats, ArgumentFault::NoStats)?;
+    let leases = file_of(alloc, texts.leases, ArgumentFault::NoPath)?;
+    let hosts = file_of(alloc, texts.hosts, ArgumentFault::NoHosts)?;
+    let stats = file_of(alloc, texts.stats, ArgumentFault::NoStats)?;
     apart(alloc, texts.leases, texts.hosts)?;
     apart(alloc, texts.leases, texts.stats)?;
     apart(alloc, texts.hosts, texts.stats)?;
@@ -115,10 +116,10 @@ fn files_of(alloc: Global, texts: &NbnsTexts<'_>) -> Result<Files, Failure>
     })
 }
 
-/// Refused where both paths are given, and are the same.
+/// Refuses the second path where both are given, and are the same.
 fn apart(alloc: Global, one: Option<&str>, other: Option<&str>) -> Result<(), Failure>
-    ensures ok { OnOk result (AreApart (option_map (λ t. t.now) one.entry) (option_map (λ t. t.now) other.entry)) }
-    ensures failure { IfErr result (TwiceFails (option_map (λ t. t.now) one.entry) (option_map (λ t. t.now) other.entry)) }
+    ensures ok { OnOk result (AreApart (path_of one.entry) (path_of other.entry)) }
+    ensures failure { IfErr result (TwiceFails (path_of one.entry) (path_of other.entry)) }
 {
     match (one, other) {
         (Some(one), Some(other)) if one == other => {
@@ -131,32 +132,20 @@ fn apart(alloc: Global, one: Option<&str>, other: Option<&str>) -> Result<(), Fa
 /// Refuses a file that the folder of the state has for itself, where there is that folder: the list of leases, the hosts, or the statistics,
 /// the first of them.
 fn expect_beside(alloc: Global, texts: &NbnsTexts<'_>) -> Result<(), Failure>
-    ensures beside { OnOk result (AreBeside texts.now) }
-    ensures failure { IfErr result (BesideFails texts.now) }
+    ensures { NeedsFree texts.now result }
 {
-    if texts.state.is_none() {
-        return Ok(());
-    }
-    expect_all_free(alloc, texts)
+    expect_free(alloc, texts.state, texts.leases)?;
+    expect_free(alloc, texts.state, texts.hosts)?;
+    expect_free(alloc, texts.state, texts.stats)?;
+    Ok(())
 }
 
-/// The same, whether or not there is that folder.
-fn expect_all_free(alloc: Global, texts: &NbnsTexts<'_>) -> Result<(), Failure>
-    ensures free { OnOk result (AreFree texts.now) }
-    ensures failure { IfErr result (NotFree texts.now) }
+/// Refuses a path, if there is one, whose last component is the name of a file that the folder of a state has for itself, if there is one.
+fn expect_free(alloc: Global, state: Option<&str>, path: Option<&str>) -> Result<(), Failure>
+    ensures { Fits (λ path. state.entry ≢ None → ¬ IsStores path) ArgumentFault.Stores path.entry result }
 {
-    expect_free(alloc, texts.leases)?;
-    expect_free(alloc, texts.hosts)?;
-    expect_free(alloc, texts.stats)
-}
-
-/// Refuses a path, if there is one, whose last component is the name of a file that the folder of a state has for itself.
-fn expect_free(alloc: Global, path: Option<&str>) -> Result<(), Failure>
-    ensures free { OnOk result (IsFree (option_map (λ t. t.now) path.entry)) }
-    ensures failure { IfErr result (FreeFails (option_map (λ t. t.now) path.entry)) }
-{
-    match path {
-        Some(path) if is_stores(path.as_bytes()) => {
+    match (state, path) {
+        (Some(_), Some(path)) if is_stores(path.as_bytes()) => {
             Err(Failure::of_argument(alloc, path, ArgumentFault::Stores))
         }
         _ => Ok(()),
@@ -182,8 +171,7 @@ fn is_named(name: &[u8], path: &[u8]) -> bool
 
 /// Refuses an empty path of a file, if there is one, with this fault.
 fn expect_path(alloc: Global, text: Option<&str>, fault: ArgumentFault) -> Result<(), Failure>
-    ensures path { OnOk result (IsPath (option_map (λ t. t.now) text.entry)) }
-    ensures failure { IfErr result (PathFails fault (option_map (λ t. t.now) text.entry)) }
+    ensures { Fits (λ path. path ≢ []) fault text.entry result }
 {
     match text {
         Some(text) if text.is_empty() => Err(Failure::of_argument(alloc, text, fault)),
@@ -192,19 +180,25 @@ fn expect_path(alloc: Global, text: Option<&str>, fault: ArgumentFault) -> Resul
 }
 
 /// Copies the path of a file, if there is one. Refused with this fault where it is empty.
-fn path_of(
+fn file_of(
     alloc: Global,
     text: Option<&str>,
     fault: ArgumentFault,
 ) -> Result<Option<String>, Failure>
-    ensures path { IfOk result (λ path. (option_map string_bytes path ≡ option_map (λ t. t.now) text.entry) × IsPath (option_map (λ t. t.now) text.entry)) }
-    ensures failure { IfErr result (PathFails fault (option_map (λ t. t.now) text.entry)) }
+    ensures { IfGiven (ReadsPath fault) text.entry result }
 {
-    let Some(text) = text else {
-        return Ok(None);
-    };
+    match text {
+        Some(text) => Ok(Some(path_of(alloc, text, fault)?)),
+        None => Ok(None),
+    }
+}
+
+/// Copies a path. Refused with this fault where it is empty.
+fn path_of(alloc: Global, text: &str, fault: ArgumentFault) -> Result<String, Failure>
+    ensures { ReadsPath fault text.now result }
+{
     if text.is_empty() {
         return Err(Failure::of_argument(alloc, text, fault));
     }
-    Ok(Some(String::from_str(alloc, text)?))
+    Ok(String::from_str(alloc, text)?)
 }

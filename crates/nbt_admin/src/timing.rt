@@ -1,11 +1,11 @@
 //! Reads times, limits and numbers.
 
-ghost use Rattle.std.specs.Prelude.{◌≡◌, ◌≢◌, ◌≤◌, ◌↔◌, ℕ, IfOk, IfErr, IsSome, IfSome};
+ghost use Rattle.std.specs.Prelude.{◌≡◌, ◌≤◌, ◌↔◌, ℕ, IsSome, IfSome, IfNone};
 ghost use Rattle.nbt_lease.specs.Config.{IsLongest, IsRows, milliseconds};
-ghost use Rattle.nbt_nbns.specs.Limits.{judged};
-ghost use Rattle.nbt_nbns.specs.declared.limits.Judged.TheVariants.{Short};
+ghost use Rattle.nbt_text.specs.Number.{SpellsNumber};
 ghost use Rattle.nbt_text.specs.Times.{SpellsTime};
-ghost use Rattle.nbt_admin.specs.Times.{SpellsRows, SpellsLongest, IsLongestText, SpellsEnding, IsEnding, EndingFails, SpellsClientRows, ClientRowsFail, IsConfigOf, AreLimits, LimitsFail};
+ghost use Rattle.nbt_admin.specs.Reading.{IfGiven};
+ghost use Rattle.nbt_admin.specs.Times.{SpellsLongest, ReadsConfig, NeedsFit, ReadsTime, ReadsRows};
 
 use crate::failure::{ArgumentFault, Complaint, Failure};
 use nbt_lease::{Config, LIFE_MOST, LONGEST_MOST, ROWS_MOST};
@@ -16,14 +16,9 @@ use std::alloc::Global;
 /// The milliseconds of a second.
 const SECOND: u64 = 1_000;
 
-/// How many live leases a client of a server may have, without an argument (our profile).
-const CLIENT_ROWS: u32 = 64;
-
 /// Reads the limits that a server and its hosts share, for the greatest number of leases.
 pub fn config_of(alloc: Global, life: &str, longest: &str) -> Result<Config, Failure>
-    ensures read { IfOk result (IsConfigOf life.now longest.now) }
-    ensures limits { IfOk result (λ _. AreLimits life.now longest.now) }
-    ensures failure { IfErr result (LimitsFail life.now longest.now) }
+    ensures { ReadsConfig life.now longest.now result }
 {
     let Some(milliseconds) = parse_between(life, 1, LIFE_MOST) else {
         return Err(Failure::of_argument(alloc, life, ArgumentFault::Life));
@@ -36,8 +31,7 @@ pub fn config_of(alloc: Global, life: &str, longest: &str) -> Result<Config, Fai
 
 /// Refuses limits with which no network can run, as `nbt_nbns::judge` decides.
 pub fn fit(config: Config) -> Result<(), Failure>
-    ensures fits { IfOk result (λ _. judged config ≢ Short) }
-    ensures failure { IfErr result (λ failure. (judged config ≡ Short) × (failure ≡ Failure.Complaint (Complaint.Short config))) }
+    ensures { NeedsFit config result }
 {
     match judge(config) {
         Judged::Short => Err(Failure::Complaint(Complaint::Short(config))),
@@ -47,27 +41,38 @@ pub fn fit(config: Config) -> Result<(), Failure>
 
 /// Reads for how many milliseconds a command runs; `None` for no limit.
 pub fn ending_of(alloc: Global, text: Option<&str>) -> Result<Option<u64>, Failure>
-    ensures read { IfOk result (SpellsEnding text.entry) }
-    ensures ends { IfOk result (λ _. IsEnding text.entry) }
-    ensures failure { IfErr result (EndingFails text.entry) }
+    ensures { IfGiven ReadsTime text.entry result }
 {
-    let Some(text) = text else {
-        return Ok(None);
-    };
+    match text {
+        Some(text) => Ok(Some(time_of(alloc, text)?)),
+        None => Ok(None),
+    }
+}
+
+/// Reads a time, in milliseconds.
+fn time_of(alloc: Global, text: &str) -> Result<u64, Failure>
+    ensures { ReadsTime text.now result }
+{
     match read_duration(text.as_bytes()) {
-        Some(time) => Ok(Some(time)),
+        Some(time) => Ok(time),
         None => Err(Failure::of_argument(alloc, text, ArgumentFault::Time)),
     }
 }
 
-/// Reads how many live leases a client of a server may have: a whole number from 1 to 4,096; without a text 64.
-pub fn client_rows_of(alloc: Global, text: Option<&str>) -> Result<u32, Failure>
-    ensures read { IfOk result (SpellsClientRows text.entry) }
-    ensures failure { IfErr result (ClientRowsFail text.entry) }
+/// Reads how many live leases a client of a server may have: a whole number from 1 to 4,096; `None` without a text.
+pub fn client_rows_of(alloc: Global, text: Option<&str>) -> Result<Option<u32>, Failure>
+    ensures { IfGiven ReadsRows text.entry result }
 {
-    let Some(text) = text else {
-        return Ok(CLIENT_ROWS);
-    };
+    match text {
+        Some(text) => Ok(Some(rows_of(alloc, text)?)),
+        None => Ok(None),
+    }
+}
+
+/// Reads a number of live leases.
+fn rows_of(alloc: Global, text: &str) -> Result<u32, Failure>
+    ensures { ReadsRows text.now result }
+{
     match parse_rows(text) {
         Some(rows) => Ok(rows),
         None => Err(Failure::of_argument(alloc, text, ArgumentFault::ClientRows)),
@@ -76,8 +81,8 @@ pub fn client_rows_of(alloc: Global, text: Option<&str>) -> Result<u32, Failure>
 
 /// Reads a number of live leases: from 1 to 4,096.
 fn parse_rows(text: &str) -> Option<u32>
-    ensures read { IfSome result (SpellsRows text.now) }
-    ensures found { ((rows : ℕ) × SpellsRows text.now rows) → IsSome result }
+    ensures read { IfSome result (λ rows. SpellsNumber text.now rows × IsRows rows) }
+    ensures none { IfNone result ((rows : ℕ) → ¬ (SpellsNumber text.now rows × IsRows rows)) }
 {
     match parse_number(text.as_bytes()) {
         Some(number) => rows_within(number),
@@ -100,7 +105,7 @@ fn rows_within(number: u64) -> Option<u32>
 /// Reads a time of at least `least` ms and at most `most` ms.
 pub fn parse_between(text: &str, least: u64, most: u64) -> Option<u64>
     ensures read { IfSome result (λ time. SpellsTime text.now time × ((least ≤ time) × (time ≤ most))) }
-    ensures found { ((time : ℕ) × (SpellsTime text.now time × ((least ≤ time) × (time ≤ most)))) → IsSome result }
+    ensures none { IfNone result ((time : ℕ) → ¬ (SpellsTime text.now time × ((least ≤ time) × (time ≤ most)))) }
 {
     match read_duration(text.as_bytes()) {
         Some(time) => between(time, least, most),
@@ -123,7 +128,7 @@ fn between(time: u64, least: u64, most: u64) -> Option<u64>
 /// Reads the longest lease: from 1 to 1,000,000 s, in whole seconds.
 fn parse_longest(text: &str) -> Option<u32>
     ensures read { IfSome result (SpellsLongest text.now) }
-    ensures found { IsLongestText text.now → IsSome result }
+    ensures none { IfNone result ((seconds : ℕ) → ¬ SpellsLongest text.now seconds) }
 {
     match read_duration(text.as_bytes()) {
         Some(time) => seconds_within(time),

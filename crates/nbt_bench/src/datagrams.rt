@@ -60,7 +60,8 @@ fn receive_data<P: Port + Drop>(
 ) -> Result<Outcome<'static>, Device> {
     let mut octets = ArrayVec::new();
     for _ in 0..RECEIVES {
-        if receive(&mut end.datagrams, &mut octets)? == Some(source) {
+        let from = receive(&mut end.datagrams, &mut octets)?.map(|route| route.peer);
+        if from == Some(source) {
             if let Some(count) = accept_one(end, server, octets.as_slice())? {
                 return Ok(Outcome::Octets(count));
             }

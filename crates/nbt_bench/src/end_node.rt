@@ -1,7 +1,7 @@
 //! An end node with its two ports, and the name server with its port and its clock.
 
 ghost use Rattle.std.specs.Prelude.{◌≡◌, ◌<◌, OnOk, IsErr};
-ghost use Rattle.nbt_port.specs.PortCalls.{receiving, sending};
+ghost use Rattle.nbt_port.specs.PortCalls.{receiving, sending, route_to};
 ghost use Rattle.nbt_serve.specs.Serving.{Runs};
 ghost use Rattle.nbt_serve.specs.declared.serving.Counts.{Counts};
 ghost use Rattle.nbt_bench.specs.Counting.{CountsOn};
@@ -13,7 +13,7 @@ use nbt_dgram::Joiner;
 use nbt_lease::{Config, Moment};
 use nbt_name::Addr;
 use nbt_node::Node;
-use nbt_port::{Cause, Clock, Device, Port};
+use nbt_port::{Cause, Clock, Device, Port, Route};
 use nbt_serve::serve_turns;
 use nbt_server::Server;
 use std::alloc::Global;
@@ -103,22 +103,22 @@ impl<P: Port + Drop> NameServer<P> {
     }
 }
 
-/// Sends octets through a port. One that has failed isn't used again.
+/// Sends octets through a port to a host. One that has failed isn't used again.
 pub fn send<P: Port>(port: &mut P, to: Addr, octets: &[u8]) -> Result<(), Device>
-    ensures does { P.failures port.old ≡ 0 → P.does port.old (sending to octets.now result) port.new }
+    ensures does { P.failures port.old ≡ 0 → P.does port.old (sending (route_to to) octets.now result) port.new }
     ensures failed { 0 < P.failures port.old → IsErr result × (port.new ≡ port.old) }
 {
     if port.failures() > 0 {
         return Err(Device);
     }
-    port.send(to, octets)
+    port.send(Route::to(to), octets)
 }
 
 /// Receives once from a port. One that has failed isn't used again.
 pub fn receive<P: Port>(
     port: &mut P,
     octets: &mut ArrayVec<u8, 2048>,
-) -> Result<Option<Addr>, Device>
+) -> Result<Option<Route>, Device>
     ensures does { P.failures port.old ≡ 0 → P.does port.old (receiving result octets.new.items) port.new }
     ensures failed { 0 < P.failures port.old → IsErr result × (port.new ≡ port.old) }
 {

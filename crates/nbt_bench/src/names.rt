@@ -61,7 +61,7 @@ fn exchange<'a, P: Port + Drop>(
     send(&mut end.names, server.addr(), request.as_slice())?;
     for _ in 0..TURNS {
         server.serve()?;
-        let from = receive(&mut end.names, octets)?;
+        let from = receive(&mut end.names, octets)?.map(|route| route.peer);
         if from == Some(server.addr()) && is_reply(request.as_slice(), octets.as_slice()) {
             return Ok(hear(end, server, octets.as_slice()));
         }

@@ -1,6 +1,6 @@
 //! An end node over UDP and the machine's clock.
 
-ghost use Rattle.std.specs.Prelude.{◌≡◌, ◌≢◌, ℕ, ◌+◌, ◌<◌, ◌≤◌, ◌^◌, OnOk, IfOk, IfErr, IsOk};
+ghost use Rattle.std.specs.Prelude.{◌≡◌, ◌≢◌, ℕ, OnOk, IfOk, IfErr, IsOk};
 ghost use Rattle.std.specs.Io.KnownBytes.{Appends};
 ghost use Rattle.nbt_node.specs.Calls.{started};
 ghost use Rattle.nbt_node.specs.Node.{holds};
@@ -69,7 +69,6 @@ pub fn run_turns<P: Port, M: time::Clock, W: Write, E: Write>(
     machine: &M,
     errors: &mut E,
 ) -> Result<(), Fault>
-    requires failure_count { P.failures port.old ≤ 2 ^ 61 }
     ensures ok { OnOk result (RunsNode P.does arguments.now
         port.old clock.old (W.contents writer.old) port.new clock.new (W.contents writer.new)) }
     ensures device { result ≡ Err Fault.Device → NodeFails P.does arguments.now
@@ -102,7 +101,6 @@ fn run_for<P: Port, C: Clock, W: Write, M: time::Clock, E: Write>(
     machine: &M,
     errors: &mut E,
 ) -> Result<(), Fault>
-    requires failure_count { P.failures port.old ≤ 2 ^ 61 }
     ensures ok { OnOk result (RunsFor P.does C.tells arguments.now.turns arguments.now.server arguments.now.want (record { port = port.old; clock = clock.old; node = node.old; text = W.contents writer.old })
         (record { port = port.new; clock = clock.new; node = node.new; text = W.contents writer.new })) }
     ensures err { IfErr result (λ fault. NodeEndsFor P.does C.tells arguments.now.turns arguments.now.server arguments.now.want fault (record { port = port.old; clock = clock.old; node = node.old; text = W.contents writer.old })
@@ -125,7 +123,6 @@ fn take_turns<P: Port, C: Clock, W: Write>(
     turns: u64,
     writer: &mut W,
 ) -> Result<(), Fault>
-    requires failure_count { P.failures port.old < 2 ^ 62 }
     ensures ok { OnOk result (TakesTurns P.does C.tells arguments.now.server arguments.now.want turns
         (record { port = port.old; clock = clock.old; node = node.old; text = W.contents writer.old }) (record { port = port.new; clock = clock.new; node = node.new; text = W.contents writer.new })) }
     ensures err { IfErr result (λ fault. EndsTurns P.does C.tells arguments.now.server arguments.now.want (FailsTurn P.does C.tells arguments.now.server arguments.now.want fault) turns
@@ -148,7 +145,6 @@ fn node_on<P: Port, C: Clock, W: Write, M: time::Clock, E: Write>(
     machine: &M,
     errors: &mut E,
 ) -> Result<(), Fault>
-    requires failure_count { P.failures port.old + turns ≤ 2 ^ 62 }
     ensures ok { OnOk result (StaysUntil (Turns P.does C.tells arguments.now.server arguments.now.want) (BreaksTurns P.does C.tells arguments.now.server arguments.now.want) (λ _ _. ⊥) turns
         (record { port = port.old; clock = clock.old; node = node.old; text = W.contents writer.old }) (record { port = port.new; clock = clock.new; node = node.new; text = W.contents writer.new })) }
     ensures err { IfErr result (λ fault. EndsEarly (Turns P.does C.tells arguments.now.server arguments.now.want) (BreaksTurns P.does C.tells arguments.now.server arguments.now.want)
@@ -191,8 +187,6 @@ impl<P: Port, C: Clock, W: Write> Turn for NodeTurn<'_, '_, '_, '_, '_, P, C, W>
 
     ghost fixed = { λ t. (t.arguments.now, t.port.ghost_name ∷ t.clock.ghost_name ∷ t.node.ghost_name ∷ t.writer.ghost_name ∷ []) };
 
-    ghost failures = { λ t. P.failures t.port.now };
-
     ghost turns = { λ a. Turns P.does C.tells a.0.server a.0.want };
 
     ghost breaks = { λ a. BreaksTurns P.does C.tells a.0.server a.0.want };
@@ -224,13 +218,10 @@ fn take_turn<P: Port, C: Clock, W: Write>(
     arguments: &NodeArguments,
     writer: &mut W,
 ) -> Result<Seen, Fault>
-    requires failure_count { P.failures port.old < 2 ^ 62 }
     ensures ok { IfOk result (λ seen. Turns P.does C.tells arguments.now.server arguments.now.want
         (record { port = port.old; clock = clock.old; node = node.old; text = W.contents writer.old }) seen (record { port = port.new; clock = clock.new; node = node.new; text = W.contents writer.new })) }
     ensures err { IfErr result (λ fault. FailsTurn P.does C.tells arguments.now.server arguments.now.want fault
         (record { port = port.old; clock = clock.old; node = node.old; text = W.contents writer.old }) (record { port = port.new; clock = clock.new; node = node.new; text = W.contents writer.new })) }
-    ensures same { OnOk result (P.failures port.new ≡ P.failures port.old) }
-    ensures count { P.failures port.new ≤ P.failures port.old + 1 }
 {
     let seen = node_turn(port, clock, node, arguments.server, &arguments.want)?;
     tell(seen, writer).map_err(|_| Fault::Output)?;

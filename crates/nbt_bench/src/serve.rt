@@ -1,6 +1,6 @@
 //! A name server over UDP and the machine's clock.
 
-ghost use Rattle.std.specs.Prelude.{◌≡◌, ◌≢◌, ℕ, ◌+◌, ◌≤◌, ◌^◌, OnOk, IfErr};
+ghost use Rattle.std.specs.Prelude.{◌≡◌, ◌≢◌, ℕ, OnOk, IfErr};
 ghost use Rattle.std.specs.Io.KnownBytes.{Appends};
 ghost use Rattle.nbt_port.specs.Staying.{StaysUntil, EndsEarly};
 ghost use Rattle.nbt_bench.specs.Serve.{ServesTurn, BreaksServing, RunsServer, ServerFails, ServerIsCut, RunsServerHere, ServerFailsHere, ServerIsCutHere, ServesFor, FailsFor, IsCutFor, counts_text};
@@ -68,7 +68,6 @@ pub fn serve<P: Port, C: Clock, W: Write, M: time::Clock, E: Write>(
     machine: &M,
     errors: &mut E,
 ) -> Result<(), Fault>
-    requires failure_count { P.failures port.old ≤ 2 ^ 61 }
     ensures ok { OnOk result (RunsServer P.does C.tells arguments.now
         port.old clock.old (W.contents writer.old) port.new clock.new (W.contents writer.new)) }
     ensures device { result ≡ Err Fault.Device → ServerFails P.does C.tells arguments.now
@@ -91,7 +90,6 @@ fn serve_for<P: Port, C: Clock, W: Write, M: time::Clock, E: Write>(
     machine: &M,
     errors: &mut E,
 ) -> Result<(), Fault>
-    requires failure_count { P.failures port.old ≤ 2 ^ 61 }
     ensures ok { OnOk result (ServesFor P.does C.tells arguments.now.turns (record { port = port.old; clock = clock.old; server = server.old }) (W.contents writer.old)
         (record { port = port.new; clock = clock.new; server = server.new }) (W.contents writer.new)) }
     ensures device { result ≡ Err Fault.Device → FailsFor P.does C.tells arguments.now.turns (record { port = port.old; clock = clock.old; server = server.old }) (W.contents writer.old)
@@ -122,7 +120,6 @@ fn serve_on<P: Port, C: Clock, M: time::Clock, E: Write>(
     machine: &M,
     errors: &mut E,
 ) -> Result<(), Fault>
-    requires failure_count { P.failures port.old + turns ≤ 2 ^ 62 }
     ensures ok { OnOk result (StaysUntil (ServesTurn P.does C.tells) (BreaksServing P.does C.tells) (λ _ _. ⊥) turns
         (record { port = port.old; clock = clock.old; server = server.old }) (record { port = port.new; clock = clock.new; server = server.new })) }
     ensures err { IfErr result (λ fault. EndsEarly (ServesTurn P.does C.tells) (BreaksServing P.does C.tells) (λ _ _ _. ⊥) turns fault
@@ -162,8 +159,6 @@ impl<P: Port, C: Clock> Turn for ServerTurn<'_, P, C> {
     ghost state = { λ t. record { port = t.port.now; clock = t.clock.now; server = t.server.now } };
 
     ghost fixed = { λ t. t.port.ghost_name ∷ t.clock.ghost_name ∷ t.server.ghost_name ∷ [] };
-
-    ghost failures = { λ t. P.failures t.port.now };
 
     ghost turns = { λ _. ServesTurn P.does C.tells };
 

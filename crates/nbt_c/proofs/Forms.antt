@@ -1,16 +1,7 @@
 -- Forms of a name that are put into the caller's buffer, the word of its characters, and the dot before a scope's labels.
-use Rattle.std.proofs.Common.{◌≡◌, ℕ, ◌/◌, ◌%◌, ◌<◌, ◌≤◌, List, [], ◌∷◌, ◌++◌, length, drop, refl, ap, subst, ◌∙◌, inl, inr, arith, append_assoc}
-use Rattle.std.specs.Prelude.{slice_index}
+use Rattle.nbt_c.proofs.Common.{◌≡◌, ℕ, ◌/◌, ◌%◌, ◌<◌, ◌≤◌, List, [], ◌∷◌, ◌++◌, length, drop, refl, ap, subst, ◌∙◌, inl, inr, arith, append_assoc, slice_index, length-append, encode_lower, encode_upper, upper_digits, NameValue, PrintsComponent, PrintsLabels, label_printed, none_printed, dot, prefix, dotted, CName, HoldsName, name_in, Writes, written, has_no_room, no_room, given}
 use Rattle.std.proofs.lemmas.Bool.{cases_lt}
-use Rattle.std.proofs.lemmas.List.{length-append}
-use Rattle.hex.specs.Hex.{encode_lower, encode_upper, encode_with, upper_digits}
-use Rattle.nbt_name.specs.Wire.{NameValue}
-use Rattle.nbt_text.specs.NameText.{PrintsComponent, PrintsLabels, label_printed, none_printed, dot, prefix}
-use Rattle.nbt_text.specs.ScopedNames.{dotted}
-use Rattle.nbt_c.specs.declared.name.CName.{CName}
-use Rattle.nbt_c.specs.Names.{HoldsName, name_in, Writes, written, has_no_room}
-use Rattle.nbt_c.specs.Results.{no_room}
-use Rattle.nbt_c.proofs.Calls.{given}
+use Rattle.hex.specs.Hex.{encode_with}
 
 pub form_written : (IsForm : NameValue → List ℕ → Type 0) (held : CName) (room : List ℕ) (size : ℕ) (form : List ℕ) → HoldsName held → IsForm (name_in held) form → (r : ℕ) (after : List ℕ) (n : ℕ)
     → (length form ≤ length room → (r ≡ 0) × (after ≡ form ++ drop (length form) room) × (n ≡ length form)) → (length room < length form → (r ≡ no_room) × (after ≡ room) × (n ≡ size)) → Writes IsForm held room size r after n

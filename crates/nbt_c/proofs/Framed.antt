@@ -1,10 +1,7 @@
 -- Session packets in octets: a header, and what it counts; and which packets are no messages.
-use Rattle.std.proofs.Common.{◌≡◌, ◌≢◌, ℕ, ◌/◌, ◌%◌, List, ◌∷◌, ◌++◌, length, sym, subst, ap, ◌∙◌}
-use Rattle.nbt_name.specs.Wire.{NameValue, wire}
-use Rattle.nbt_session.specs.declared.packet.PacketType.TheVariants.{Message}
-use Rattle.nbt_session.specs.Packet.{PacketValue, request, octet_of, text, type_of}
+use Rattle.nbt_c.proofs.Common.{◌≡◌, ◌≢◌, ℕ, ◌/◌, ◌%◌, List, ◌∷◌, ◌++◌, length, sym, subst, ap, ◌∙◌, NameValue, wire, Message, PacketValue, request, octet_of, type_of, IsPacketIn, is_message}
+use Rattle.nbt_session.specs.Packet.{text}
 use Rattle.nbt_c.specs.declared.packet.CPacket.{CPacket}
-use Rattle.nbt_c.specs.Sessions.{IsPacketIn, is_message}
 
 -- a header of a kind, and the octets
 abbrev pub framed_by : ℕ → List ℕ → List ℕ

@@ -1,15 +1,6 @@
 -- What the proofs of a node's datagrams share.
-use Rattle.std.proofs.Common.{◌≡◌, ◌≤◌, ℕ, List, Option}
-use Rattle.nbt_name.specs.declared.addr.Addr.{Addr}
-use Rattle.nbt_packet.specs.Message.{MessageValue}
-use Rattle.nbt_lease.specs.Config.{last_moment}
-use Rattle.nbt_node.specs.Node.{NodeValue}
-use Rattle.nbt_node.specs.Moves.{Told}
-use Rattle.nbt_node.specs.Datagrams.{Handles, Says}
-use Rattle.nbt_node.specs.Answering.{sent_back}
-use Rattle.nbt_c.specs.Events.{octets_back, reported}
+use Rattle.nbt_c.proofs.Common.{◌≡◌, ◌≤◌, ℕ, List, Option, Addr, MessageValue, last_moment, NodeValue, Told, Handles, Says, sent_back, octets_back, reported, Hears}
 use Rattle.nbt_c.specs.Nodes as is
-use Rattle.nbt_c.specs.Nodes.{Hears}
 
 -- what was handled, what is reported and what is sent back may be given by equal ones
 pub heard_as : (old : NodeValue) (now : ℕ) (from : Addr) (octets : List ℕ) (new : NodeValue) (message : Option MessageValue) (told : Told) (own : List ℕ) (heard : Told) (out : List ℕ)

@@ -1,5 +1,7 @@
 -- Moments, moves along equations, and room that is left.
 mod Calls
+-- What most proofs cite.
+mod Common
 -- A call of a session sends requests alone.
 mod Calling
 -- What crosses to C lies there as the header declares it.

@@ -1,13 +1,8 @@
 -- A listener sends no message.
-use Rattle.std.proofs.Common.{◌≢◌, ℕ, List, Option}
+use Rattle.nbt_c.proofs.Common.{◌≢◌, ℕ, List, Option, NameValue, Entry, Message, EventValue, ListenerAnswerValue, send_and_close, CallMoves, name_is_not_present, SlotMoves, is_called, gets_no_request, type_of}
 use Rattle.nbt_name.specs.declared.addr.Kind.{Kind}
-use Rattle.nbt_name.specs.Wire.{NameValue}
-use Rattle.nbt_session.specs.declared.listener.Entry.{Entry}
 use Rattle.nbt_session.specs.declared.listener.Slot.{Slot}
-use Rattle.nbt_session.specs.declared.packet.PacketType.TheVariants.{Message}
-use Rattle.nbt_session.specs.Event.{EventValue}
-use Rattle.nbt_session.specs.Listener.{ListenerAnswerValue, send, send_and_close, CallMoves, name_is_not_present, SlotMoves, is_called, gets_no_request}
-use Rattle.nbt_session.specs.Packet.{type_of}
+use Rattle.nbt_session.specs.Listener.{send}
 
 -- what is sent is no message
 abbrev pub IsNoMessage : ListenerAnswerValue → Type 0

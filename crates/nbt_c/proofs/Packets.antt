@@ -1,16 +1,9 @@
 -- The packets that data are split into have room in 576 octets each, and are written.
-use Rattle.std.proofs.Common.{◌≡◌, ℕ, ◌<◌, ◌≤◌, List, length, map, get_or, Some, None, Result, Ok, Err, refl, ap, ◌∙◌, subst, arith, zero, suc}
-use Rattle.std.specs.Prelude.{◌↔◌, slice_get, IsOk, IsErr, OnOk}
+use Rattle.nbt_c.proofs.Common.{◌≡◌, ℕ, ◌<◌, ◌≤◌, List, length, map, get_or, Some, None, Result, Ok, Err, refl, ap, ◌∙◌, subst, arith, zero, suc, ◌↔◌, slice_get, IsOk, IsErr, OnOk, slice_get-map, slice_get_past, slice_get_read, length-append, Addr, Dgram, FragmentValue, DgramValue, dgram_of, one, front_of, back_of, size_of, packet, Splits, in_one, in_two, IsSplit, names_text, Fits}
 use Rattle.std.specs.Option.{option_map}
-use Rattle.std.proofs.lemmas.Option.{slice_get-map, slice_get_past, slice_get_read}
-use Rattle.std.proofs.lemmas.List.{length-append}
-use Rattle.nbt_name.specs.declared.addr.Addr.{Addr}
 use Rattle.nbt_dgram.specs.declared.dgram.Names.{Names}
 use Rattle.nbt_dgram.specs.declared.msg_type.Delivery.{Delivery}
-use Rattle.nbt_dgram.specs.declared.dgram.Dgram.{Dgram}
-use Rattle.nbt_dgram.specs.Dgram.{FragmentValue, DgramValue, dgram_of}
-use Rattle.nbt_dgram.specs.Fragments.{one, front_of, back_of, size_of, packet, Splits, in_one, in_two, IsSplit}
-use Rattle.nbt_dgram.specs.Text.{names_text, text, Fits}
+use Rattle.nbt_dgram.specs.Text.{text}
 
 -- a packet that can be written, in 576 octets
 abbrev pub HasRoom : DgramValue → Type 0

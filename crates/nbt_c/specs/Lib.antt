@@ -2,13 +2,11 @@ pub mod Calling
 pub mod Datagrams
 pub mod Ends
 pub mod Events
-pub mod Lending
 pub mod Listening
 pub mod Memory
 pub mod Names
 pub mod Nodes
 pub mod Results
-pub mod ResultWords
 pub mod Serving
 pub mod Sessions
 pub mod Sizes

@@ -1,5 +1,5 @@
--- Memory of a program in C: room for a value, or the value that stands there.
-use Rattle.std.specs.Prelude.{Option, Some, None}
+-- Memory of a program in C: room for a value, or the value that stands there; and what a call does with that value.
+use Rattle.std.specs.Prelude.{◌≡◌, Option, Some, None}
 use Rattle.std.specs.Borrow.{Fml, RattleType, full_share}
 use Rattle.std.specs.Ptr.{Ptr, lies_at, room_at}
 use denote.Param.{number}
@@ -24,3 +24,13 @@ joiner_row = joiner (number 4)
 
 abbrev pub listener_row : RattleType
 listener_row = listener (number 14) (number 8)
+
+-- ---- calls
+
+-- what a call makes of the value that stands there
+abbrev pub Changes : {V : Type 0} → (before after : Option V) → (V → V → Type 0) → Type 0
+Changes {V = V} before after Does = (old : V) → before ≡ Some old → (new : V) × (after ≡ Some new) × Does old new
+
+-- what it says of that value, which stays
+abbrev pub Reads : {V : Type 0} → (before after : Option V) → (V → Type 0) → Type 0
+Reads {V = V} before after Says = (it : V) → before ≡ Some it → (after ≡ Some it) × Says it

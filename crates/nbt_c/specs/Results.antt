@@ -1,5 +1,5 @@
 -- What a call returns beside the numbers of faults, and what it puts into the caller's buffer (our profile).
-use Rattle.std.specs.Prelude.{◌≡◌, ℕ, List, ◌++◌, length, take, drop, Option, Some, None}
+use Rattle.std.specs.Prelude.{◌≡◌, ℕ, ◌-◌, List, ◌++◌, length, take, drop, replicate, Option, Some, None}
 
 -- a name is due, and none is held
 abbrev pub no_name : ℕ
@@ -39,9 +39,17 @@ pub record Puts (octets before after : List ℕ) (size : ℕ) : Type 0 where
   pub after_is : after ≡ octets ++ drop (length octets) before
   pub size_is : size ≡ length octets
 
+-- the octets of an answer stand so in the caller's buffer
+abbrev pub Leaves : (before after : List ℕ) (size : ℕ) → (Answers : List ℕ → Type 0) → Type 0
+Leaves before after size Answers = (octets : List ℕ) × Answers octets × Puts octets before after size
+
 -- as many of them as fit
 abbrev pub PutsMost : (octets before after : List ℕ) → Type 0
 PutsMost octets before after = after ≡ take (length before) octets ++ drop (length octets) before
+
+-- words in 64 octets, zeros behind them
+abbrev pub ended : List ℕ → List ℕ
+ended words = words ++ replicate (64 - length words) 0
 
 -- the version, 0.1.0: 10,000 for each MAJOR, 100 for each MINOR, and 1 for each PATCH
 abbrev pub version : ℕ

@@ -1,12 +1,12 @@
 //! What a datagram's octets mean for a node in C's memory.
 
-ghost use Rattle.std.specs.Prelude.{◌≡◌, ℕ, List, Some, None, IsSome, IsNone, replicate};
+ghost use Rattle.std.specs.Prelude.{◌≡◌, Some, None, IsSome, IsNone, replicate};
 ghost use Rattle.nbt_dgram.specs.Accepting.{AcceptValue, accept_of};
-ghost use Rattle.nbt_dgram.specs.Joiner.{JoinerValue, joiner_of};
-ghost use Rattle.nbt_node.specs.Node.{NodeValue};
+ghost use Rattle.nbt_dgram.specs.Joiner.{joiner_of};
 ghost use Rattle.nbt_c.specs.Datagrams.{AcceptsFor, accept_after, data_of};
 ghost use Rattle.nbt_c.specs.Ends.{addr_of};
-ghost use Rattle.nbt_c.specs.Results.{Puts, PutsMost};
+ghost use Rattle.nbt_c.specs.Memory.{Changes, Reads};
+ghost use Rattle.nbt_c.specs.Results.{Leaves, PutsMost};
 ghost use Rattle.nbt_c.specs.Sizes.{joiner_size, object_align};
 
 use crate::buffer::{Octets, put_most, put_packet};
@@ -145,10 +145,9 @@ pub extern "C" fn nbt_datagram_accept(
 ) -> u8
     requires joiner { IsSome joiner.old.joiner }
     requires node { IsSome node.old.node }
-    ensures { (old : JoinerValue) (n : NodeValue) → joiner.old.joiner ≡ Some old → node.old.node ≡ Some n
-        → (new : JoinerValue) × (outcome : AcceptValue) × (sent : List ℕ) × (joiner.new.joiner ≡ Some new) × (node.new.node ≡ Some n)
-        × AcceptsFor old now n (addr_of own) octets.now result outcome sent new × (told.new ≡ accept_after told.old outcome)
-        × PutsMost (data_of outcome) data.old data.new × Puts sent out.old out.new size.new }
+    ensures { Reads node.old.node node.new.node (λ it. Changes joiner.old.joiner joiner.new.joiner (λ old new. (outcome : AcceptValue)
+        × Leaves out.old out.new size.new (λ sent. AcceptsFor old now it (addr_of own) octets.now result outcome sent new)
+        × (told.new ≡ accept_after told.old outcome) × PutsMost (data_of outcome) data.old data.new)) }
 {
     let mut sent = Octets::new();
     let result = hand(

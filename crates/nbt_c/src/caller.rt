@@ -1,12 +1,13 @@
 //! The calling endpoint of a session, in C's memory (RFC 1002 section 5.2.1).
 
-ghost use Rattle.std.specs.Prelude.{◌≡◌, Some, IsSome, IsNone, IfOk, IfErr};
+ghost use Rattle.std.specs.Prelude.{◌≡◌, IsSome, IsNone, IfOk, IfErr};
 ghost use Rattle.nbt_session.specs.declared.packet.PacketType.TheVariants.{Request};
-ghost use Rattle.nbt_session.specs.Caller.{AnswerValue, CallerValue, answer_of, send};
+ghost use Rattle.nbt_session.specs.Caller.{AnswerValue, answer_of, send};
 ghost use Rattle.nbt_session.specs.Event.{event_of as event_value};
 ghost use Rattle.nbt_session.specs.Packet.{PacketValue, packet_of, text, type_of};
 ghost use Rattle.nbt_c.specs.Calling.{Begins, CallsFor, IsEvent, EventFault, answer_after, sent_by};
 ghost use Rattle.nbt_c.specs.Ends.{addr_of};
+ghost use Rattle.nbt_c.specs.Memory.{Changes};
 ghost use Rattle.nbt_c.specs.Results.{Puts};
 ghost use Rattle.nbt_c.specs.Sizes.{caller_size, object_align};
 
@@ -16,7 +17,7 @@ use crate::framing::put_names;
 use crate::held::CCaller;
 use crate::name::CName;
 use crate::packet::CPacket;
-use crate::results::{NO_KIND, NO_NAME};
+use crate::results::{NO_KIND, NO_NAME, given};
 use nbt_session::{Caller, CallerAnswer, Event, Failure, Packet};
 use std::alloc::Global;
 
@@ -98,12 +99,8 @@ pub extern "C" fn nbt_caller_begin(
     requires { IsNone caller.old.caller }
     ensures { Begins called.now calling.now (addr_of to) result caller.new.caller }
 {
-    let Some(called) = called.read() else {
-        return NO_NAME;
-    };
-    let Some(calling) = calling.read() else {
-        return NO_NAME;
-    };
+    given!(called = called.read(), else NO_NAME);
+    given!(calling = calling.read(), else NO_NAME);
     let (begun, _) = Caller::begin(called, calling, to.addr());
     caller.put(begun);
     0
@@ -189,9 +186,8 @@ pub extern "C" fn nbt_caller_on(
     size: &mut usize,
 ) -> u8
     requires { IsSome caller.old.caller }
-    ensures { (old : CallerValue) → caller.old.caller ≡ Some old → (new : CallerValue) × (answer : AnswerValue) × (caller.new.caller ≡ Some new)
-        × CallsFor old happened packet.now result answer new × (told.new ≡ answer_after told.old answer)
-        × Puts (sent_by answer) out.old out.new size.new }
+    ensures { Changes caller.old.caller caller.new.caller (λ old new. (answer : AnswerValue) × CallsFor old happened packet.now result answer new
+        × (told.new ≡ answer_after told.old answer) × Puts (sent_by answer) out.old out.new size.new) }
 {
     let mut sent = Octets::new();
     let result = call(alloc, caller.get(), happened, packet, told, &mut sent);

@@ -6,7 +6,7 @@ ghost use Rattle.nbt_session.specs.declared.packet.PacketType.TheVariants.{Messa
 ghost use Rattle.nbt_session.specs.Numbers.{encode_fault_number};
 ghost use Rattle.nbt_session.specs.Packet.{header, packet_of, request, retarget, text, type_of};
 ghost use Rattle.nbt_c.specs.Sessions.{WritesPacket};
-ghost use Rattle.nbt_c.specs.Results.{Puts};
+ghost use Rattle.nbt_c.specs.Results.{Leaves};
 
 use crate::buffer::{Octets, put_packet};
 use crate::packet::{CPacket, KEEP_ALIVE, MESSAGE, NEGATIVE, POSITIVE, REQUEST, RETARGET};
@@ -38,7 +38,7 @@ pub extern "C" fn nbt_session_message(count: usize, out: &mut [u8; 4]) -> u8
 /// none.
 #[unsafe(no_mangle)]
 pub extern "C" fn nbt_session_write(packet: &CPacket, out: &mut [u8; 576], size: &mut usize) -> u8
-    ensures { (octets : List ℕ) × WritesPacket packet.now result octets × Puts octets out.old out.new size.new }
+    ensures { Leaves out.old out.new size.new (WritesPacket packet.now result) }
 {
     let mut octets = Octets::new();
     let result = write(packet, &mut octets);

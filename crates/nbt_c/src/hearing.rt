@@ -5,21 +5,21 @@ ghost use Rattle.nbt_name.specs.declared.addr.Addr.{Addr as End};
 ghost use Rattle.nbt_name.specs.declared.addr.Kind.{Kind as HeldKind};
 ghost use Rattle.nbt_lease.specs.Config.{last_moment};
 ghost use Rattle.nbt_node.specs.Moves.{Told, told_of};
-ghost use Rattle.nbt_node.specs.Node.{NodeValue};
 ghost use Rattle.nbt_packet.specs.Message.{MessageValue, message_if};
 ghost use Rattle.nbt_packet.specs.Spelling.{Spells};
 ghost use Rattle.nbt_node.specs.Waiting.{sends_at, IsFirst};
 ghost use Rattle.nbt_c.specs.Events.{event_for, lent_by};
 ghost use Rattle.nbt_c.specs.Ends.{addr_of};
 ghost use Rattle.nbt_c.specs.Nodes.{Hears, is_request, PollsNode, Holds, Stands, end_after, held_number, standing_number};
-ghost use Rattle.nbt_c.specs.Results.{Puts, PutsMost, TellsTime};
+ghost use Rattle.nbt_c.specs.Memory.{Changes, Reads};
+ghost use Rattle.nbt_c.specs.Results.{Leaves, Puts, PutsMost, TellsTime};
 
 use crate::buffer::{Octets, put_most, put_packet};
 use crate::ends::{CAddr, kind_number};
 use crate::event::{CEvent, answer, lent_by};
 use crate::held::{CNode, HeldNode};
 use crate::name::CName;
-use crate::results::{NO_MOMENT, NO_NAME, NOTHING_DUE};
+use crate::results::{NO_MOMENT, NO_NAME, NOTHING_DUE, given};
 use nbt_lease::Moment;
 use nbt_name::{Addr, Kind};
 use nbt_node::{ClockBack, Event, Standing};
@@ -116,9 +116,9 @@ pub extern "C" fn nbt_node_on_datagram(
     size: &mut usize,
 ) -> u8
     requires { IsSome node.old.node }
-    ensures { (old : NodeValue) → node.old.node ≡ Some old → (new : NodeValue) × (told : Told) × (message : Option MessageValue) × (reply : List ℕ)
-        × (node.new.node ≡ Some new) × Hears old now (addr_of from) octets.now result new told message reply × (event.new ≡ event_for told message)
-        × PutsMost (lent_by told) lent.old lent.new × Puts reply out.old out.new size.new }
+    ensures { Changes node.old.node node.new.node (λ old new. (told : Told) × (message : Option MessageValue)
+        × Leaves out.old out.new size.new (Hears old now (addr_of from) octets.now result new told message)
+        × (event.new ≡ event_for told message) × PutsMost (lent_by told) lent.old lent.new) }
 {
     let message = read(octets);
     hear_message(
@@ -170,9 +170,7 @@ fn poll(node: &mut HeldNode, now: u64, to: &mut CAddr, out: &mut Octets) -> u8
     ensures { (end : Option End) × PollsNode node.old now result node.new end out.new.items × (to.new ≡ end_after to.old end) }
 {
     out.clear();
-    let Some(now) = Moment::new(now) else {
-        return NO_MOMENT;
-    };
+    given!(now = Moment::new(now), else NO_MOMENT);
     match node.poll(now, out) {
         Ok(Some(end)) => {
             *to = CAddr::of(end);
@@ -195,8 +193,8 @@ pub extern "C" fn nbt_node_poll(
     size: &mut usize,
 ) -> u8
     requires { IsSome node.old.node }
-    ensures { (old : NodeValue) → node.old.node ≡ Some old → (new : NodeValue) × (end : Option End) × (octets : List ℕ) × (node.new.node ≡ Some new)
-        × PollsNode old now result new end octets × (to.new ≡ end_after to.old end) × Puts octets out.old out.new size.new }
+    ensures { Changes node.old.node node.new.node (λ old new. (end : Option End)
+        × Leaves out.old out.new size.new (PollsNode old now result new end) × (to.new ≡ end_after to.old end)) }
 {
     let mut octets = Octets::new();
     let result = poll(node.get(), now, to, &mut octets);
@@ -210,8 +208,8 @@ pub extern "C" fn nbt_node_poll(
 #[unsafe(no_mangle)]
 pub extern "C" fn nbt_node_next_due(node: &mut CNode, due: &mut u64) -> u8
     requires { IsSome node.old.node }
-    ensures { (old : NodeValue) → node.old.node ≡ Some old → (next : Option ℕ) × (node.new.node ≡ Some old)
-        × IsFirst (sends_at old) old.last next × TellsTime next due.old result due.new }
+    ensures { Reads node.old.node node.new.node (λ it. (next : Option ℕ) × IsFirst (sends_at it) it.last next
+        × TellsTime next due.old result due.new) }
 {
     tell_time(node.get().next_due(), due)
 }
@@ -220,9 +218,7 @@ pub extern "C" fn nbt_node_next_due(node: &mut CNode, due: &mut u64) -> u8
 fn tell_time(time: Option<u64>, out: &mut u64) -> u8
     ensures { TellsTime time out.old result out.new }
 {
-    let Some(time) = time else {
-        return NOTHING_DUE;
-    };
+    given!(time = time, else NOTHING_DUE);
     *out = time;
     0
 }
@@ -232,12 +228,8 @@ fn holds(node: &HeldNode, now: u64, name: &CName, held: &mut u8) -> u8
     ensures { (kind : Option HeldKind) × Holds node.now now name.now result kind × (held.new ≡ held_number kind) }
 {
     *held = 0;
-    let Some(now) = Moment::new(now) else {
-        return NO_MOMENT;
-    };
-    let Some(name) = name.lend() else {
-        return NO_NAME;
-    };
+    given!(now = Moment::new(now), else NO_MOMENT);
+    given!(name = name.lend(), else NO_NAME);
     *held = held_number(node.holds(now, &name));
     0
 }
@@ -256,8 +248,8 @@ fn held_number(kind: Option<Kind>) -> u8
 #[unsafe(no_mangle)]
 pub extern "C" fn nbt_node_holds(node: &mut CNode, now: u64, name: &CName, held: &mut u8) -> u8
     requires { IsSome node.old.node }
-    ensures { (old : NodeValue) → node.old.node ≡ Some old → (kind : Option HeldKind) × (node.new.node ≡ Some old)
-        × Holds old now name.now result kind × (held.new ≡ held_number kind) }
+    ensures { Reads node.old.node node.new.node (λ it. (kind : Option HeldKind) × Holds it now name.now result kind
+        × (held.new ≡ held_number kind)) }
 {
     holds(node.get(), now, name, held)
 }
@@ -266,15 +258,9 @@ pub extern "C" fn nbt_node_holds(node: &mut CNode, now: u64, name: &CName, held:
 fn stands(node: &HeldNode, now: u64, name: &CName, state: &mut u8) -> u8
     ensures { Stands node.now now name.now state.old result state.new }
 {
-    let Some(now) = Moment::new(now) else {
-        return NO_MOMENT;
-    };
-    let Some(name) = name.lend() else {
-        return NO_NAME;
-    };
-    let Some(standing) = node.standing(now, &name) else {
-        return ClockBack.number();
-    };
+    given!(now = Moment::new(now), else NO_MOMENT);
+    given!(name = name.lend(), else NO_NAME);
+    given!(standing = node.standing(now, &name), else ClockBack.number());
     *state = standing_number(standing);
     0
 }
@@ -297,7 +283,7 @@ fn standing_number(standing: Standing) -> u8
 #[unsafe(no_mangle)]
 pub extern "C" fn nbt_node_state(node: &mut CNode, now: u64, name: &CName, state: &mut u8) -> u8
     requires { IsSome node.old.node }
-    ensures { (old : NodeValue) → node.old.node ≡ Some old → (node.new.node ≡ Some old) × Stands old now name.now state.old result state.new }
+    ensures { Reads node.old.node node.new.node (λ it. Stands it now name.now state.old result state.new) }
 {
     stands(node.get(), now, name, state)
 }

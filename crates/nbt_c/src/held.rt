@@ -3,7 +3,7 @@
 //! A handle says where the memory is and, as far as contracts see, what stands there, if anything.
 
 ghost use Rattle.std.specs.Prelude.{◌≡◌, Option, Some, IsSome, IsNone};
-ghost use Rattle.std.specs.Borrow.{sem};
+ghost use Rattle.std.specs.Borrow.{Lends, sem};
 ghost use Rattle.nbt_dgram.specs.Joiner.{JoinerValue};
 ghost use Rattle.nbt_node.specs.Node.{NodeValue};
 ghost use Rattle.nbt_server.specs.Serving.{ServerValue};
@@ -34,7 +34,8 @@ impl Model for CNode {
 }
 
 impl CNode {
-    ghost use Rattle.nbt_c.specs.Lending.{LendsNode};
+    ghost use Rattle.nbt_c.specs.Memory.{node_row};
+    ghost use Rattle.nbt_c.specs.contracts.held.CNode.{the_row};
 
     /// Puts a node into the memory.
     pub(crate) fn put(&mut self, node: HeldNode)
@@ -47,7 +48,7 @@ impl CNode {
     /// The node that stands there.
     pub(crate) fn get(&mut self) -> &mut HeldNode
         requires { IsSome self.old.node }
-        ensures* writes_back { sem 𝓛 (LendsNode self.entry result) }
+        ensures* writes_back { sem 𝓛 (Lends the_row node_row self.entry result (λ last. record self.entry.now { node = Some last })) }
         ensures value { self.old.node ≡ Some result.now }
     {
         unsafe { &mut *(self.at as *mut HeldNode) }
@@ -69,7 +70,8 @@ impl Model for CServer {
 
 impl CServer {
     ghost use Rattle.std.specs.Prelude.{None};
-    ghost use Rattle.nbt_c.specs.Lending.{LendsServer};
+    ghost use Rattle.nbt_c.specs.Memory.{server_row};
+    ghost use Rattle.nbt_c.specs.contracts.held.CServer.{the_row};
 
     /// Puts a server into the memory.
     pub(crate) fn put(&mut self, server: Server)
@@ -82,7 +84,7 @@ impl CServer {
     /// The server that stands there.
     pub(crate) fn get(&mut self) -> &mut Server
         requires { IsSome self.old.server }
-        ensures* writes_back { sem 𝓛 (LendsServer self.entry result) }
+        ensures* writes_back { sem 𝓛 (Lends the_row server_row self.entry result (λ last. record self.entry.now { server = Some last })) }
         ensures value { self.old.server ≡ Some result.now }
     {
         unsafe { &mut *(self.at as *mut Server) }
@@ -111,7 +113,8 @@ impl Model for CJoiner {
 }
 
 impl CJoiner {
-    ghost use Rattle.nbt_c.specs.Lending.{LendsJoiner};
+    ghost use Rattle.nbt_c.specs.Memory.{joiner_row};
+    ghost use Rattle.nbt_c.specs.contracts.held.CJoiner.{the_row};
 
     /// Puts a joiner into the memory.
     pub(crate) fn put(&mut self, joiner: Joiner<4>)
@@ -124,7 +127,7 @@ impl CJoiner {
     /// The joiner that stands there.
     pub(crate) fn get(&mut self) -> &mut Joiner<4>
         requires { IsSome self.old.joiner }
-        ensures* writes_back { sem 𝓛 (LendsJoiner self.entry result) }
+        ensures* writes_back { sem 𝓛 (Lends the_row joiner_row self.entry result (λ last. record self.entry.now { joiner = Some last })) }
         ensures value { self.old.joiner ≡ Some result.now }
     {
         unsafe { &mut *(self.at as *mut Joiner<4>) }
@@ -145,7 +148,8 @@ impl Model for CPieces {
 }
 
 impl CPieces {
-    ghost use Rattle.nbt_c.specs.Lending.{LendsPieces};
+    ghost use Rattle.nbt_c.specs.Memory.{pieces_row};
+    ghost use Rattle.nbt_c.specs.contracts.held.CPieces.{the_row};
 
     /// Puts a stream into the memory.
     pub(crate) fn put(&mut self, pieces: Pieces)
@@ -158,7 +162,7 @@ impl CPieces {
     /// The stream that stands there.
     pub(crate) fn get(&mut self) -> &mut Pieces
         requires { IsSome self.old.pieces }
-        ensures* writes_back { sem 𝓛 (LendsPieces self.entry result) }
+        ensures* writes_back { sem 𝓛 (Lends the_row pieces_row self.entry result (λ last. record self.entry.now { pieces = Some last })) }
         ensures value { self.old.pieces ≡ Some result.now }
     {
         unsafe { &mut *(self.at as *mut Pieces) }
@@ -179,7 +183,8 @@ impl Model for CCaller {
 }
 
 impl CCaller {
-    ghost use Rattle.nbt_c.specs.Lending.{LendsCaller};
+    ghost use Rattle.nbt_c.specs.Memory.{caller_row};
+    ghost use Rattle.nbt_c.specs.contracts.held.CCaller.{the_row};
 
     /// Puts a call into the memory.
     pub(crate) fn put(&mut self, caller: Caller)
@@ -192,7 +197,7 @@ impl CCaller {
     /// The call that stands there.
     pub(crate) fn get(&mut self) -> &mut Caller
         requires { IsSome self.old.caller }
-        ensures* writes_back { sem 𝓛 (LendsCaller self.entry result) }
+        ensures* writes_back { sem 𝓛 (Lends the_row caller_row self.entry result (λ last. record self.entry.now { caller = Some last })) }
         ensures value { self.old.caller ≡ Some result.now }
     {
         unsafe { &mut *(self.at as *mut Caller) }
@@ -213,7 +218,8 @@ impl Model for CListener {
 }
 
 impl CListener {
-    ghost use Rattle.nbt_c.specs.Lending.{LendsListener};
+    ghost use Rattle.nbt_c.specs.Memory.{listener_row};
+    ghost use Rattle.nbt_c.specs.contracts.held.CListener.{the_row};
 
     /// Puts a listener into the memory.
     pub(crate) fn put(&mut self, listener: Listener<14, 8>)
@@ -226,7 +232,7 @@ impl CListener {
     /// The listener that stands there.
     pub(crate) fn get(&mut self) -> &mut Listener<14, 8>
         requires { IsSome self.old.listener }
-        ensures* writes_back { sem 𝓛 (LendsListener self.entry result) }
+        ensures* writes_back { sem 𝓛 (Lends the_row listener_row self.entry result (λ last. record self.entry.now { listener = Some last })) }
         ensures value { self.old.listener ≡ Some result.now }
     {
         unsafe { &mut *(self.at as *mut Listener<14, 8>) }

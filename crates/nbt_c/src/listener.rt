@@ -1,11 +1,11 @@
 //! The listening endpoint of sessions, in C's memory (RFC 1002 section 5.2.1): 14 entries, and 8 connections.
 
-ghost use Rattle.std.specs.Prelude.{◌≡◌, ◌≢◌, Some, IsSome, IsNone, IfSome, IfNone};
-ghost use Rattle.nbt_node.specs.Node.{NodeValue};
+ghost use Rattle.std.specs.Prelude.{◌≡◌, ◌≢◌, IsSome, IsNone, IfSome, IfNone};
 ghost use Rattle.nbt_session.specs.declared.packet.PacketType.TheVariants.{Message};
-ghost use Rattle.nbt_session.specs.Listener.{ListenerValue, ListenerAnswerValue, answer_of, send, send_and_close};
+ghost use Rattle.nbt_session.specs.Listener.{ListenerAnswerValue, answer_of, send, send_and_close};
 ghost use Rattle.nbt_session.specs.Packet.{PacketValue, type_of};
 ghost use Rattle.nbt_c.specs.Listening.{StartsListener, ListensTo, StopsListening, ListensFor, kind_of, sent_for};
+ghost use Rattle.nbt_c.specs.Memory.{Changes, Reads};
 ghost use Rattle.nbt_c.specs.Results.{Puts};
 ghost use Rattle.nbt_c.specs.Sizes.{listener_size, object_align};
 
@@ -16,7 +16,7 @@ use crate::framing::put_text;
 use crate::held::{CListener, CNode, HeldNode};
 use crate::name::CName;
 use crate::packet::CPacket;
-use crate::results::{NO_MOMENT, NO_NAME, NO_PLACE, NO_ROOM};
+use crate::results::{NO_MOMENT, NO_NAME, NO_PLACE, NO_ROOM, given};
 use nbt_lease::Moment;
 use nbt_name::Addr;
 use nbt_session::{Entry, Listener, ListenerAnswer};
@@ -112,9 +112,7 @@ pub extern "C" fn nbt_listener_start(listener: &mut CListener, most: usize) -> u
 fn listen(listener: &mut Listener<14, 8>, entry: &CEntry) -> u8
     ensures { ListensTo entry.now listener.old result listener.new }
 {
-    let Some(entry) = entry.read() else {
-        return NO_NAME;
-    };
+    given!(entry = entry.read(), else NO_NAME);
     match listener.listen(entry) {
         Ok(()) => 0,
         Err(_) => NO_ROOM,
@@ -126,8 +124,7 @@ fn listen(listener: &mut Listener<14, 8>, entry: &CEntry) -> u8
 #[unsafe(no_mangle)]
 pub extern "C" fn nbt_listener_listen(listener: &mut CListener, entry: &CEntry) -> u8
     requires { IsSome listener.old.listener }
-    ensures { (old : ListenerValue) → listener.old.listener ≡ Some old → (new : ListenerValue) × (listener.new.listener ≡ Some new)
-        × ListensTo entry.now old result new }
+    ensures { Changes listener.old.listener listener.new.listener (λ old new. ListensTo entry.now old result new) }
 {
     listen(listener.get(), entry)
 }
@@ -136,9 +133,7 @@ pub extern "C" fn nbt_listener_listen(listener: &mut CListener, entry: &CEntry) 
 fn unlisten(listener: &mut Listener<14, 8>, called: &CName) -> u8
     ensures { StopsListening called.now listener.old result listener.new }
 {
-    let Some(called) = called.read() else {
-        return NO_NAME;
-    };
+    given!(called = called.read(), else NO_NAME);
     listener.unlisten(&called);
     0
 }
@@ -148,8 +143,7 @@ fn unlisten(listener: &mut Listener<14, 8>, called: &CName) -> u8
 #[unsafe(no_mangle)]
 pub extern "C" fn nbt_listener_unlisten(listener: &mut CListener, called: &CName) -> u8
     requires { IsSome listener.old.listener }
-    ensures { (old : ListenerValue) → listener.old.listener ≡ Some old → (new : ListenerValue) × (listener.new.listener ≡ Some new)
-        × StopsListening called.now old result new }
+    ensures { Changes listener.old.listener listener.new.listener (λ old new. StopsListening called.now old result new) }
 {
     unlisten(listener.get(), called)
 }
@@ -197,9 +191,7 @@ fn hand(
 {
     *kind = 0;
     out.clear();
-    let Some(now) = Moment::new(now) else {
-        return NO_MOMENT;
-    };
+    given!(now = Moment::new(now), else NO_MOMENT);
     if slot >= SLOTS {
         return NO_PLACE;
     }
@@ -234,10 +226,9 @@ pub extern "C" fn nbt_listener_on(
 ) -> u8
     requires listener { IsSome listener.old.listener }
     requires node { IsSome node.old.node }
-    ensures { (old : ListenerValue) (n : NodeValue) → listener.old.listener ≡ Some old → node.old.node ≡ Some n
-        → (new : ListenerValue) × (answer : ListenerAnswerValue) × (listener.new.listener ≡ Some new) × (node.new.node ≡ Some n)
-        × ListensFor old now n slot happened packet.now result answer new × (kind.new ≡ kind_of answer)
-        × Puts (sent_for answer) out.old out.new size.new }
+    ensures { Reads node.old.node node.new.node (λ it. Changes listener.old.listener listener.new.listener (λ old new. (answer : ListenerAnswerValue)
+        × ListensFor old now it slot happened packet.now result answer new × (kind.new ≡ kind_of answer)
+        × Puts (sent_for answer) out.old out.new size.new)) }
 {
     let mut sent = Octets::new();
     let result = hand(

@@ -1,17 +1,17 @@
 //! A node in C's memory: it starts, registers, releases and looks up names.
 
-ghost use Rattle.std.specs.Prelude.{◌≡◌, IsNone, ℕ, List, Some, IsSome};
-ghost use Rattle.nbt_node.specs.Node.{NodeValue};
+ghost use Rattle.std.specs.Prelude.{◌≡◌, IsNone, IsSome};
 ghost use Rattle.nbt_c.specs.Ends.{addr_of, kind_of};
 ghost use Rattle.nbt_c.specs.Sizes.{node_size, object_align};
 ghost use Rattle.nbt_c.specs.Nodes.{Starts, StartsFrom, Asks, GivesBack, Resolves, AsksStatus};
-ghost use Rattle.nbt_c.specs.Results.{Puts};
+ghost use Rattle.nbt_c.specs.Memory.{Changes};
+ghost use Rattle.nbt_c.specs.Results.{Leaves};
 
 use crate::buffer::{Octets, put_packet};
 use crate::ends::{CAddr, CConfig};
 use crate::held::{CNode, HeldNode};
 use crate::name::CName;
-use crate::results::{NO_KIND, NO_MOMENT, NO_NAME};
+use crate::results::{NO_KIND, NO_MOMENT, NO_NAME, given};
 use nbt_lease::{Config, Moment};
 use nbt_name::{Addr, Kind};
 use nbt_node::Node;
@@ -69,9 +69,7 @@ pub extern "C" fn nbt_node_start_from(
         Ok(limits) => limits,
         Err(fault) => return fault.number(),
     };
-    let Some(now) = Moment::new(now) else {
-        return NO_MOMENT;
-    };
+    given!(now = Moment::new(now), else NO_MOMENT);
     node.put(Node::start_from(own.addr(), server.addr(), limits, now, first_id));
     0
 }
@@ -92,15 +90,9 @@ fn ask(node: &mut HeldNode, now: u64, name: &CName, kind: u8, ttl: u32, out: &mu
     ensures { Asks node.old now name.now kind ttl result node.new out.new.items }
 {
     out.clear();
-    let Some(now) = Moment::new(now) else {
-        return NO_MOMENT;
-    };
-    let Some(name) = name.lend() else {
-        return NO_NAME;
-    };
-    let Some(kind) = kind_of(kind) else {
-        return NO_KIND;
-    };
+    given!(now = Moment::new(now), else NO_MOMENT);
+    given!(name = name.lend(), else NO_NAME);
+    given!(kind = kind_of(kind), else NO_KIND);
     match node.ask(now, &name, kind, ttl, out) {
         Ok(()) => 0,
         Err(fault) => fault.number(),
@@ -122,8 +114,7 @@ pub extern "C" fn nbt_node_ask(
     size: &mut usize,
 ) -> u8
     requires { IsSome node.old.node }
-    ensures { (old : NodeValue) → node.old.node ≡ Some old → (new : NodeValue) × (octets : List ℕ) × (node.new.node ≡ Some new)
-        × Asks old now name.now kind ttl result new octets × Puts octets out.old out.new size.new }
+    ensures { Changes node.old.node node.new.node (λ old new. Leaves out.old out.new size.new (Asks old now name.now kind ttl result new)) }
 {
     let mut octets = Octets::new();
     let result = ask(node.get(), now, name, kind, ttl, &mut octets);
@@ -136,12 +127,8 @@ fn release(node: &mut HeldNode, now: u64, name: &CName, out: &mut Octets) -> u8
     ensures { GivesBack node.old now name.now result node.new out.new.items }
 {
     out.clear();
-    let Some(now) = Moment::new(now) else {
-        return NO_MOMENT;
-    };
-    let Some(name) = name.lend() else {
-        return NO_NAME;
-    };
+    given!(now = Moment::new(now), else NO_MOMENT);
+    given!(name = name.lend(), else NO_NAME);
     match node.release(now, &name, out) {
         Ok(()) => 0,
         Err(fault) => fault.number(),
@@ -160,8 +147,7 @@ pub extern "C" fn nbt_node_release(
     size: &mut usize,
 ) -> u8
     requires { IsSome node.old.node }
-    ensures { (old : NodeValue) → node.old.node ≡ Some old → (new : NodeValue) × (octets : List ℕ) × (node.new.node ≡ Some new)
-        × GivesBack old now name.now result new octets × Puts octets out.old out.new size.new }
+    ensures { Changes node.old.node node.new.node (λ old new. Leaves out.old out.new size.new (GivesBack old now name.now result new)) }
 {
     let mut octets = Octets::new();
     let result = release(node.get(), now, name, &mut octets);
@@ -174,12 +160,8 @@ fn resolve(node: &mut HeldNode, now: u64, name: &CName, out: &mut Octets) -> u8
     ensures { Resolves node.old now name.now result node.new out.new.items }
 {
     out.clear();
-    let Some(now) = Moment::new(now) else {
-        return NO_MOMENT;
-    };
-    let Some(name) = name.lend() else {
-        return NO_NAME;
-    };
+    given!(now = Moment::new(now), else NO_MOMENT);
+    given!(name = name.lend(), else NO_NAME);
     match node.resolve(now, &name, out) {
         Ok(()) => 0,
         Err(fault) => fault.number(),
@@ -198,8 +180,7 @@ pub extern "C" fn nbt_node_resolve(
     size: &mut usize,
 ) -> u8
     requires { IsSome node.old.node }
-    ensures { (old : NodeValue) → node.old.node ≡ Some old → (new : NodeValue) × (octets : List ℕ) × (node.new.node ≡ Some new)
-        × Resolves old now name.now result new octets × Puts octets out.old out.new size.new }
+    ensures { Changes node.old.node node.new.node (λ old new. Leaves out.old out.new size.new (Resolves old now name.now result new)) }
 {
     let mut octets = Octets::new();
     let result = resolve(node.get(), now, name, &mut octets);
@@ -212,12 +193,8 @@ fn ask_status(node: &mut HeldNode, now: u64, to: Addr, name: &CName, out: &mut O
     ensures { AsksStatus node.old now to name.now result node.new out.new.items }
 {
     out.clear();
-    let Some(now) = Moment::new(now) else {
-        return NO_MOMENT;
-    };
-    let Some(name) = name.lend() else {
-        return NO_NAME;
-    };
+    given!(now = Moment::new(now), else NO_MOMENT);
+    given!(name = name.lend(), else NO_NAME);
     match node.name_status(now, to, &name, out) {
         Ok(()) => 0,
         Err(fault) => fault.number(),
@@ -237,8 +214,7 @@ pub extern "C" fn nbt_node_name_status(
     size: &mut usize,
 ) -> u8
     requires { IsSome node.old.node }
-    ensures { (old : NodeValue) → node.old.node ≡ Some old → (new : NodeValue) × (octets : List ℕ) × (node.new.node ≡ Some new)
-        × AsksStatus old now (addr_of to) name.now result new octets × Puts octets out.old out.new size.new }
+    ensures { Changes node.old.node node.new.node (λ old new. Leaves out.old out.new size.new (AsksStatus old now (addr_of to) name.now result new)) }
 {
     let mut octets = Octets::new();
     let result = ask_status(node.get(), now, to.addr(), name, &mut octets);

@@ -1,7 +1,8 @@
 //! A session's stream in C's memory: its octets come in pieces, and its parts are reported (RFC 1002 section 4.3).
 
 ghost use Rattle.std.specs.Prelude.{◌≡◌, [], Some, IsSome, IsNone};
-ghost use Rattle.nbt_session.specs.Parts.{PiecesState, between, part_if};
+ghost use Rattle.nbt_session.specs.Parts.{between, part_if};
+ghost use Rattle.nbt_c.specs.Memory.{Changes};
 ghost use Rattle.nbt_c.specs.Sessions.{TakesFor, part_after};
 ghost use Rattle.nbt_c.specs.Sizes.{stream_size, object_align};
 
@@ -101,8 +102,7 @@ pub extern "C" fn nbt_pieces_take(
     taken: &mut usize,
 ) -> u8
     requires { IsSome pieces.old.pieces }
-    ensures { (old : PiecesState) → pieces.old.pieces ≡ Some old → (new : PiecesState) × (pieces.new.pieces ≡ Some new)
-        × TakesFor piece.now old part.old result part.new taken.new new }
+    ensures { Changes pieces.old.pieces pieces.new.pieces (λ old new. TakesFor piece.now old part.old result part.new taken.new new) }
 {
     take(pieces.get(), piece, part, taken)
 }

@@ -20,3 +20,14 @@ pub(crate) const NO_LEASE: u8 = 250;
 
 /// A poll sends nothing, at whatever time.
 pub(crate) const NOTHING_DUE: u8 = 249;
+
+/// What C passes, where it is right; else the call returns the number of what is wrong.
+macro_rules! given {
+    ($name:ident = $passed:expr, else $number:expr) => {
+        let Some($name) = $passed else {
+            return $number;
+        };
+    };
+}
+
+pub(crate) use given;

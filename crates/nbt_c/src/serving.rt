@@ -1,11 +1,11 @@
 //! A name server in C's memory: it starts, handles datagrams, lists its live leases, and ends.
 
-ghost use Rattle.std.specs.Prelude.{◌≡◌, ℕ, List, Option, Some, None, IsSome, IsNone, slice_get};
+ghost use Rattle.std.specs.Prelude.{◌≡◌, Option, None, IsSome, IsNone, slice_get};
 ghost use Rattle.nbt_name.specs.Wire.{NameValue};
 ghost use Rattle.nbt_lease.specs.declared.lease.Lease.{Lease as HeldLease};
-ghost use Rattle.nbt_server.specs.Serving.{ServerValue};
 ghost use Rattle.nbt_c.specs.Ends.{addr_of};
-ghost use Rattle.nbt_c.specs.Results.{Puts};
+ghost use Rattle.nbt_c.specs.Memory.{Changes, Reads};
+ghost use Rattle.nbt_c.specs.Results.{Leaves};
 ghost use Rattle.nbt_c.specs.Serving.{StartsServer, ServesFor, TellsLease, TellsRow, lease_after, name_of_row, lease_of_row};
 ghost use Rattle.nbt_c.specs.Sizes.{server_size, object_align};
 
@@ -13,7 +13,7 @@ use crate::buffer::{Octets, put_packet};
 use crate::ends::{CAddr, CConfig, kind_number};
 use crate::held::CServer;
 use crate::name::CName;
-use crate::results::{NO_LEASE, NO_MOMENT, NO_NAME};
+use crate::results::{NO_LEASE, NO_MOMENT, NO_NAME, given};
 use nbt_lease::{Config, Lease, Members, Moment};
 use nbt_name::{Addr, Name};
 use nbt_server::{Server, ServerFault};
@@ -77,9 +77,7 @@ pub extern "C" fn nbt_server_start(
         Ok(limits) => limits,
         Err(fault) => return fault.number(),
     };
-    let Some(now) = Moment::new(now) else {
-        return NO_MOMENT;
-    };
+    given!(now = Moment::new(now), else NO_MOMENT);
     server.put(Server::start(alloc, limits, now));
     0
 }
@@ -98,9 +96,7 @@ fn serve(server: &mut Server, now: u64, from: Addr, octets: &[u8], out: &mut Oct
     ensures { ServesFor server.old now from octets.now result server.new out.new.items }
 {
     out.clear();
-    let Some(now) = Moment::new(now) else {
-        return NO_MOMENT;
-    };
+    given!(now = Moment::new(now), else NO_MOMENT);
     match server.on_datagram(now, from, octets, out) {
         Ok(_) => 0,
         Err(fault) => fault.number(),
@@ -120,8 +116,7 @@ pub extern "C" fn nbt_server_on_datagram(
     size: &mut usize,
 ) -> u8
     requires { IsSome server.old.server }
-    ensures { (old : ServerValue) → server.old.server ≡ Some old → (new : ServerValue) × (reply : List ℕ) × (server.new.server ≡ Some new)
-        × ServesFor old now (addr_of from) octets.now result new reply × Puts reply out.old out.new size.new }
+    ensures { Changes server.old.server server.new.server (λ old new. Leaves out.old out.new size.new (ServesFor old now (addr_of from) octets.now result new)) }
 {
     let mut reply = Octets::new();
     let result = serve(server.get(), now, from.addr(), octets, &mut reply);
@@ -140,12 +135,8 @@ fn nth_of(mut members: Members<'_>, which: usize) -> Option<Lease>
 fn report_lease(server: &Server, now: u64, name: &CName, which: usize, lease: &mut CLease) -> u8
     ensures { (found : Option HeldLease) × TellsLease server.now now name.now which result found × (lease.new ≡ lease_after lease.old found) }
 {
-    let Some(now) = Moment::new(now) else {
-        return NO_MOMENT;
-    };
-    let Some(name) = name.read() else {
-        return NO_NAME;
-    };
+    given!(now = Moment::new(now), else NO_MOMENT);
+    given!(name = name.read(), else NO_NAME);
     if now.get() < server.last().get() {
         return ServerFault::ClockBack.number();
     }
@@ -171,8 +162,8 @@ pub extern "C" fn nbt_server_lease(
     lease: &mut CLease,
 ) -> u8
     requires { IsSome server.old.server }
-    ensures { (old : ServerValue) → server.old.server ≡ Some old → (found : Option HeldLease) × (server.new.server ≡ Some old)
-        × TellsLease old now name.now which result found × (lease.new ≡ lease_after lease.old found) }
+    ensures { Reads server.old.server server.new.server (λ it. (found : Option HeldLease) × TellsLease it now name.now which result found
+        × (lease.new ≡ lease_after lease.old found)) }
 {
     report_lease(server.get(), now, name, which, lease)
 }
@@ -215,8 +206,8 @@ pub extern "C" fn nbt_server_row(
     lease: &mut CLease,
 ) -> u8
     requires { IsSome server.old.server }
-    ensures { (old : ServerValue) → server.old.server ≡ Some old → (found : Option (NameValue × HeldLease)) × (server.new.server ≡ Some old)
-        × TellsRow old which result found × (name.new ≡ name_of_row name.old found) × (lease.new ≡ lease_of_row lease.old found) }
+    ensures { Reads server.old.server server.new.server (λ it. (found : Option (NameValue × HeldLease)) × TellsRow it which result found
+        × (name.new ≡ name_of_row name.old found) × (lease.new ≡ lease_of_row lease.old found)) }
 {
     report_row(alloc, server.get(), which, name, lease)
 }

@@ -8,12 +8,12 @@ ghost use Rattle.nbt_dgram.specs.Numbers.{type_number};
 ghost use Rattle.nbt_dgram.specs.Text.{Fits, text};
 ghost use Rattle.nbt_c.specs.Datagrams.{SplitsFor, octets_of};
 ghost use Rattle.nbt_c.specs.Ends.{addr_of};
-ghost use Rattle.nbt_c.specs.Results.{Puts};
+ghost use Rattle.nbt_c.specs.Results.{Leaves};
 
 use crate::buffer::{Octets, put_packet};
 use crate::ends::CAddr;
 use crate::name::CName;
-use crate::results::{NO_KIND, NO_NAME};
+use crate::results::{NO_KIND, NO_NAME, given};
 use nbt_dgram::{Delivery, Dgram, encode, split};
 use nbt_name::Addr;
 
@@ -62,15 +62,9 @@ fn cut(
 {
     first.clear();
     second.clear();
-    let Some(source) = source.lend() else {
-        return NO_NAME;
-    };
-    let Some(destination) = destination.lend() else {
-        return NO_NAME;
-    };
-    let Some(delivery) = delivery_of(kind) else {
-        return NO_KIND;
-    };
+    given!(source = source.lend(), else NO_NAME);
+    given!(destination = destination.lend(), else NO_NAME);
+    given!(delivery = delivery_of(kind), else NO_KIND);
     match split(delivery, id, own, &source, &destination, data) {
         Ok(packets) => {
             write(packets.as_slice(), 0, first);
@@ -99,8 +93,8 @@ pub extern "C" fn nbt_datagram_split(
     second: &mut [u8; 576],
     second_size: &mut usize,
 ) -> u8
-    ensures { (a b : List ℕ) × SplitsFor kind id (addr_of own) source.now destination.now data.now result a b
-        × Puts a first.old first.new first_size.new × Puts b second.old second.new second_size.new }
+    ensures { Leaves first.old first.new first_size.new (λ front. Leaves second.old second.new second_size.new
+        (SplitsFor kind id (addr_of own) source.now destination.now data.now result front)) }
 {
     let mut front = Octets::new();
     let mut back = Octets::new();

@@ -10,7 +10,7 @@ ghost use Rattle.nbt_c.specs.Results.{no_place};
 
 use crate::buffer::put_form;
 use crate::name::CName;
-use crate::results::{NO_NAME, NO_PLACE};
+use crate::results::{NO_NAME, NO_PLACE, given};
 use arrayvec::ArrayVec;
 use nbt_name::{Name, NameFault, read_in, read_plain};
 
@@ -21,9 +21,7 @@ use nbt_name::{Name, NameFault, read_in, read_plain};
 pub extern "C" fn nbt_name_to_wire(name: &CName, out: &mut [u8], size: &mut usize) -> u8
     ensures { Writes IsWire name.now out.old size.old result out.new size.new }
 {
-    let Some(name) = name.read() else {
-        return NO_NAME;
-    };
+    given!(name = name.read(), else NO_NAME);
     let mut wire = ArrayVec::new();
     name.to_wire(&mut wire);
     put_form(wire.as_slice(), out, size)

@@ -9,7 +9,7 @@ ghost use Rattle.nbt_c.specs.Names.{IsScopeText, IsWord, Writes};
 
 use crate::buffer::put_form;
 use crate::name::CName;
-use crate::results::NO_NAME;
+use crate::results::{NO_NAME, given};
 use arrayvec::ArrayVec;
 use nbt_name::Name;
 use nbt_text::{front_of, stands_as_it_is};
@@ -30,9 +30,7 @@ type Text = ArrayVec<u8, 1105>;
 pub extern "C" fn nbt_name_to_word(name: &CName, out: &mut [u8], size: &mut usize) -> u8
     ensures { Writes IsWord name.now out.old size.old result out.new size.new }
 {
-    let Some(name) = name.read() else {
-        return NO_NAME;
-    };
+    given!(name = name.read(), else NO_NAME);
     put_form(word_of(name.octets()).as_slice(), out, size)
 }
 
@@ -44,9 +42,7 @@ pub extern "C" fn nbt_name_to_word(name: &CName, out: &mut [u8], size: &mut usiz
 pub extern "C" fn nbt_name_to_scope(name: &CName, out: &mut [u8], size: &mut usize) -> u8
     ensures { Writes IsScopeText name.now out.old size.old result out.new size.new }
 {
-    let Some(name) = name.read() else {
-        return NO_NAME;
-    };
+    given!(name = name.read(), else NO_NAME);
     put_form(undotted(labels_of(&name).as_slice()), out, size)
 }
 

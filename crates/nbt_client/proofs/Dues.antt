@@ -17,8 +17,8 @@ use Rattle.nbt_node.specs.Settling.{settled, rested}
 use Rattle.nbt_node.specs.Node.{NodeValue, is_in, state_in, slot_of, put, with_state, settled_slot, settled_lookup, state_at}
 use Rattle.nbt_node.specs.Moves.{Move, poll, Told, is_due, asks_again, gives_back_again, refreshes_again, refreshes}
 use Rattle.nbt_node.specs.Calls.{Polls, polls_name, polls_lookup, due_lookup, lookup_due}
-use Rattle.nbt_port.specs.PortCalls.{PortCall, nothing_came, came, receive_failed, sent, send_failed, Chain}
-use Rattle.nbt_client.specs.Turning.{PollsTo}
+use Rattle.nbt_port.specs.PortCalls.{PortCall, Chain}
+use Rattle.nbt_client.specs.Turning.{PollsTo, polls_to}
 
 -- a settled state stays as it is
 abbrev pub SettlingEnds : Type 0
@@ -206,16 +206,15 @@ polls_fewer ends now old new to octets (polls_lookup l n o is due looks writes) 
 
 -- ---- polls at one moment: no more than were due at first
 
+lessens : SettlingEnds → (now : ℕ) (old : NodeValue) (act : PortCall) (new : NodeValue) → PollsTo now old act new → dues now new < dues now old
+lessens ends now old _ _ (polls_to to octets new polls) = polls_fewer ends now old new to octets polls
+
 polls_lessen : SettlingEnds → (now : ℕ) (acts : List PortCall) (old new : NodeValue) → Chain (PollsTo now) old acts new → length acts + dues now new ≤ dues now old
 polls_lessen ends now [] old new polls = rw polls (omega arith)
-polls_lessen ends now (sent to octets ∷ acts) old new polls =
-    let fewer = polls_fewer ends now old polls.0 to octets polls.1 in
+polls_lessen ends now (act ∷ acts) old new polls =
+    let fewer = lessens ends now old act polls.0 polls.1 in
     let rest = polls_lessen ends now acts polls.0 new polls.2 in
     omega (arith, fewer, rest)
-polls_lessen ends now (nothing_came ∷ acts) old new polls = elim polls.1 [ ]
-polls_lessen ends now (came from octets ∷ acts) old new polls = elim polls.1 [ ]
-polls_lessen ends now (receive_failed ∷ acts) old new polls = elim polls.1 [ ]
-polls_lessen ends now (send_failed to octets ∷ acts) old new polls = elim polls.1 [ ]
 
 at_most_one : (b : Bool) → one_if b ≤ 1
 at_most_one true = omega arith

@@ -8,9 +8,9 @@ use Rattle.nbt_node.specs.Datagrams.{Handles}
 use Rattle.nbt_node.proofs.OneCall.{OneSending, OnePoll, OneHandling}
 use Rattle.nbt_client.specs.declared.turning.Seen.{Seen}
 use Rattle.nbt_client.specs.declared.turning.Want.{Want}
-use Rattle.nbt_port.specs.PortCalls.{PortCall, nothing_came, came, receive_failed, sent, send_failed, Chain}
+use Rattle.nbt_port.specs.PortCalls.{PortCall, came, sent, route_to, Chain}
 use Rattle.nbt_port.specs.Memory.{DatagramValue, came_in}
-use Rattle.nbt_client.specs.Turning.{Asks, asks, may_not_ask, PollsTo, EndsPolls, has_nothing, polls_back, seen_of, TurnHears, hears_nothing, hears, replies, hears_back, TakesTurn}
+use Rattle.nbt_client.specs.Turning.{Asks, asks, may_not_ask, PollsTo, polls_to, EndsPolls, has_nothing, polls_back, seen_of, TurnHears, hears_nothing, hears, replies, hears_back, TakesTurn}
 
 not_both : {X : Type 0} (x : X) (o : Option X) → o ≡ None → o ≡ Some x → ⊥
 not_both x o a b = let e : ◌≡◌ None (Some x) = sym a ∙ b in cc
@@ -35,15 +35,11 @@ ended_last now old _ le (polls_back early) = le
 record IsSent (now : ℕ) (old : NodeValue) (act : PortCall) (new : NodeValue) : Type 0 where
   to : Addr
   octets : List ℕ
-  act_is : act ≡ sent to octets
+  act_is : act ≡ sent (route_to to) octets
   polls : Polls old now new (Some to) octets
 
 is_sent : (now : ℕ) (old : NodeValue) (act : PortCall) (new : NodeValue) → PollsTo now old act new → IsSent now old act new
-is_sent now old (sent to octets) new polls = record { to = to; octets = octets; act_is = refl; polls = polls }
-is_sent now old nothing_came new polls = absurd polls
-is_sent now old (came from octets) new polls = absurd polls
-is_sent now old receive_failed new polls = absurd polls
-is_sent now old (send_failed to octets) new polls = absurd polls
+is_sent now old _ _ (polls_to to octets new polls) = record { to = to; octets = octets; act_is = refl; polls = polls }
 
 chain_last : (now : ℕ) (acts : List PortCall) (old new : NodeValue) → old.last ≤ now → Chain (PollsTo now) old acts new → new.last ≤ now
 chain_last now [] old new le same = subst (λ (n : NodeValue). n.last ≤ now) (sym same) le
@@ -74,7 +70,7 @@ module _ (one_sending : OneSending) (one_poll : OnePoll) (one_handling : OneHand
   one_asking : (server : Addr) (now : ℕ) (want : Want) (old a b : NodeValue) (acts also : List PortCall) → Asks server now want old acts a → Asks server now want old also b → (acts ≡ also) × (a ≡ b)
   one_asking server now want old _ _ _ _ (asks octets a does) (asks other b does_too) =
       let same = one_sending old a b now want.name (ask want.kind want.ttl) octets other does.sends does_too.sends in
-      (ap (λ (xs : List ℕ). sent server xs ∷ []) same.1, same.0)
+      (ap (λ (xs : List ℕ). sent (route_to server) xs ∷ []) same.1, same.0)
   one_asking server now want old _ _ _ _ (asks octets a does) (may_not_ask fault may) = absurd (not_both fault _ does.may may)
   one_asking server now want old _ _ _ _ (may_not_ask fault may) (asks octets b does) = absurd (not_both fault _ does.may may)
   one_asking server now want old _ _ _ _ (may_not_ask fault may) (may_not_ask other may_too) = (refl, refl)
@@ -98,7 +94,7 @@ module _ (one_sending : OneSending) (one_poll : OnePoll) (one_handling : OneHand
       let g = is_sent now old y b second in
       let same = one_poll old a b now (Some f.to) (Some g.to) f.octets g.octets f.polls g.polls in
       let to : f.to ≡ g.to = (let e = same.1 in cc) in
-      (f.act_is ∙ (λ i. sent (to i) (same.2 i)) ∙ sym g.act_is, same.0)
+      (f.act_is ∙ (λ i. sent (route_to (to i)) (same.2 i)) ∙ sym g.act_is, same.0)
 
   one_polling : (now : ℕ) (acts also : List PortCall) (old mid middle a b : NodeValue) → old.last ≤ now → Chain (PollsTo now) old acts mid → EndsPolls now mid a → Chain (PollsTo now) old also middle → EndsPolls now middle b → (acts ≡ also) × (a ≡ b)
   one_polling now [] [] old mid middle a b le first ends second ends_too =
@@ -121,21 +117,21 @@ module _ (one_sending : OneSending) (one_poll : OnePoll) (one_handling : OneHand
   one_hearing now old _ _ _ _ _ _ le hears_nothing (hears_back from octets early) e = absurd (omega (arith, early, le))
   one_hearing now old _ _ _ _ _ _ le (hears from octets told a not handles) hears_nothing e = absurd (nothing_else _ (sym e))
   one_hearing now old _ _ _ _ _ _ le (hears from octets told a not handles) (hears other more told_too b not_too handles_too) e =
-      let d : record { addr = from; octets = octets } ≡ record { addr = other; octets = more } = same_datagram _ _ e in
-      let same = one_handling old a b now other more told told_too [] [] (subst (λ (v : DatagramValue). Handles old now v.addr v.octets a told []) d handles) handles_too in
-      (ap (λ (v : DatagramValue). came v.addr v.octets ∷ []) d, ap seen_of same.1, same.0)
+      let d : record { route = from; octets = octets } ≡ record { route = other; octets = more } = same_datagram _ _ e in
+      let same = one_handling old a b now other.peer more told told_too [] [] (subst (λ (v : DatagramValue). Handles old now v.route.peer v.octets a told []) d handles) handles_too in
+      (ap (λ (v : DatagramValue). came v.route v.octets ∷ []) d, ap seen_of same.1, same.0)
   one_hearing now old _ _ _ _ _ _ le (hears from octets told a not handles) (replies other more reply b handles_too) e =
-      let d : record { addr = from; octets = octets } ≡ record { addr = other; octets = more } = same_datagram _ _ e in
-      absurd (not (one_handling old a b now other more told replied [] reply (subst (λ (v : DatagramValue). Handles old now v.addr v.octets a told []) d handles) handles_too).1)
+      let d : record { route = from; octets = octets } ≡ record { route = other; octets = more } = same_datagram _ _ e in
+      absurd (not (one_handling old a b now other.peer more told replied [] reply (subst (λ (v : DatagramValue). Handles old now v.route.peer v.octets a told []) d handles) handles_too).1)
   one_hearing now old _ _ _ _ _ _ le (hears from octets told a not handles) (hears_back other more early) e = absurd (omega (arith, early, le))
   one_hearing now old _ _ _ _ _ _ le (replies from octets reply a handles) hears_nothing e = absurd (nothing_else _ (sym e))
   one_hearing now old _ _ _ _ _ _ le (replies from octets reply a handles) (hears other more told b not handles_too) e =
-      let d : record { addr = from; octets = octets } ≡ record { addr = other; octets = more } = same_datagram _ _ e in
-      absurd (not (sym (one_handling old a b now other more replied told reply [] (subst (λ (v : DatagramValue). Handles old now v.addr v.octets a replied reply) d handles) handles_too).1))
+      let d : record { route = from; octets = octets } ≡ record { route = other; octets = more } = same_datagram _ _ e in
+      absurd (not (sym (one_handling old a b now other.peer more replied told reply [] (subst (λ (v : DatagramValue). Handles old now v.route.peer v.octets a replied reply) d handles) handles_too).1))
   one_hearing now old _ _ _ _ _ _ le (replies from octets reply a handles) (replies other more reply_too b handles_too) e =
-      let d : record { addr = from; octets = octets } ≡ record { addr = other; octets = more } = same_datagram _ _ e in
-      let same = one_handling old a b now other more replied replied reply reply_too (subst (λ (v : DatagramValue). Handles old now v.addr v.octets a replied reply) d handles) handles_too in
-      ((λ i. came (d i).addr (d i).octets ∷ sent (d i).addr (same.2 i) ∷ []), refl, same.0)
+      let d : record { route = from; octets = octets } ≡ record { route = other; octets = more } = same_datagram _ _ e in
+      let same = one_handling old a b now other.peer more replied replied reply reply_too (subst (λ (v : DatagramValue). Handles old now v.route.peer v.octets a replied reply) d handles) handles_too in
+      ((λ i. came (d i).route (d i).octets ∷ sent (d i).route (same.2 i) ∷ []), refl, same.0)
   one_hearing now old _ _ _ _ _ _ le (replies from octets reply a handles) (hears_back other more early) e = absurd (omega (arith, early, le))
   one_hearing now old _ _ _ _ _ _ le (hears_back from octets early) heard e = absurd (omega (arith, early, le))
 

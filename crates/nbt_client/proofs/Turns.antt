@@ -6,10 +6,11 @@ use Rattle.nbt_node.specs.Node.{NodeValue}
 use Rattle.nbt_node.specs.Moves.{replied}
 use Rattle.nbt_node.specs.Datagrams.{Handles}
 use Rattle.nbt_port.specs.declared.port.Device.{Device}
+use Rattle.nbt_port.specs.declared.port.Route.{Route}
 use Rattle.nbt_client.specs.declared.turning.Seen.{Seen}
 use Rattle.nbt_client.specs.declared.turning.Seen.TheVariants as s
 use Rattle.nbt_client.specs.declared.turning.Want.{Want}
-use Rattle.nbt_port.specs.PortCalls.{PortCall, nothing_came, came, receive_failed, send_failed, receiving, Chain}
+use Rattle.nbt_port.specs.PortCalls.{PortCall, nothing_came, came, receive_failed, send_failed, receiving, route_to, Chain}
 use Rattle.nbt_client.specs.Turning.{AsksFor, Asks, PollsAll, BreaksPolls, TurnHears, hears_nothing, TakesTurn, BreaksTurn, at_ask, at_poll, at_receive, at_reply}
 use Rattle.nbt_port.proofs.Chains.{chain_one, chain-append}
 
@@ -28,8 +29,8 @@ module _ {P C : Type 0} (does : P → PortCall → P → Type 0) (tells : C → 
   abbrev Polled : (now : ℕ) → P → NodeValue → P → NodeValue → Type 0
   Polled now q asked r polled = (acts : List PortCall) × PollsAll now asked acts polled × Chain does q acts r
 
-  pub broken_at_ask : (now : ℕ) (q : P) (d : C) (new : NodeValue) → ((octets : List ℕ) × AsksFor now want old octets new × does p (send_failed server octets) q) → tells c now d → Broken q d new
-  broken_at_ask now q d new e told = (send_failed server e.0 ∷ [], now ∷ [], at_ask now e.0 new e.1, chain_one does p (send_failed server e.0) q e.2, chain_one tells c now d told)
+  pub broken_at_ask : (now : ℕ) (q : P) (d : C) (new : NodeValue) → ((octets : List ℕ) × AsksFor now want old octets new × does p (send_failed (route_to server) octets) q) → tells c now d → Broken q d new
+  broken_at_ask now q d new e told = (send_failed (route_to server) e.0 ∷ [], now ∷ [], at_ask now e.0 new e.1, chain_one does p (send_failed (route_to server) e.0) q e.2, chain_one tells c now d told)
 
   pub broken_at_poll : (now : ℕ) (q r : P) (d : C) (asked new : NodeValue) → Asked now q asked
       → ((acts : List PortCall) × BreaksPolls now asked acts new × Chain does q acts r) → tells c now d → Broken r d new
@@ -72,12 +73,12 @@ module _ {P C : Type 0} (does : P → PortCall → P → Type 0) (tells : C → 
     (d, told, (e, told_later, refl)),
   )
 
-  pub turned_empty : (now later : ℕ) (q r t : P) (d e : C) (asked new : NodeValue) (found : Option Addr) (octets : List ℕ) → Asked now q asked → Polled now q asked r new → tells c now d → tells d later e
+  pub turned_empty : (now later : ℕ) (q r t : P) (d e : C) (asked new : NodeValue) (found : Option Route) (octets : List ℕ) → Asked now q asked → Polled now q asked r new → tells c now d → tells d later e
       → found ≡ None → does r (receiving (Ok found) octets) t → Taken s.Nothing t e new
   turned_empty now later q r t d e asked new found octets a b told told_later none did =
       turned now later q r t d e asked new new s.Nothing a b told told_later (nothing_came ∷ []) hears_nothing (chain_one does r nothing_came t (subst (λ o. does r (receiving (Ok o) octets) t) none did))
 
-  pub turned_heard : (now later : ℕ) (q r t u : P) (d e : C) (asked polled new : NodeValue) (found : Option Addr) (from : Addr) (octets seen_octets : List ℕ) (result : Result Seen Device)
+  pub turned_heard : (now later : ℕ) (q r t u : P) (d e : C) (asked polled new : NodeValue) (found : Option Route) (from : Route) (octets seen_octets : List ℕ) (result : Result Seen Device)
       → Asked now q asked → Polled now q asked r polled → tells c now d → tells d later e → found ≡ Some from → seen_octets ≡ octets → does r (receiving (Ok found) octets) t
       → IfOk result (λ seen. (acts : List PortCall) × TurnHears later polled (came from seen_octets ∷ acts) seen new × Chain does t acts u) → IfOk result (λ seen. Taken seen u e new)
   turned_heard now later q r t u d e asked polled new found from octets seen_octets (Ok seen) a b told told_later some same did h =
@@ -85,14 +86,14 @@ module _ {P C : Type 0} (does : P → PortCall → P → Type 0) (tells : C → 
       (t, subst (λ o. does r (receiving (Ok o) octets) t) some did, h.2)
   turned_heard now later q r t u d e asked polled new found from octets seen_octets (Err failure) a b told told_later some same did h = tt
 
-  pub broken_at_reply : (now later : ℕ) (q r t u : P) (d e : C) (asked polled new : NodeValue) (found : Option Addr) (from : Addr) (octets seen_octets : List ℕ) (result : Result Seen Device)
+  pub broken_at_reply : (now later : ℕ) (q r t u : P) (d e : C) (asked polled new : NodeValue) (found : Option Route) (from : Route) (octets seen_octets : List ℕ) (result : Result Seen Device)
       → Asked now q asked → Polled now q asked r polled → tells c now d → tells d later e → found ≡ Some from → seen_octets ≡ octets → does r (receiving (Ok found) octets) t
-      → OnErr result ((reply : List ℕ) × Handles polled later from seen_octets new replied reply × does t (send_failed from reply) u) → OnErr result (Broken u e new)
+      → OnErr result ((reply : List ℕ) × Handles polled later from.peer seen_octets new replied reply × does t (send_failed from reply) u) → OnErr result (Broken u e new)
   broken_at_reply now later q r t u d e asked polled new found from octets seen_octets (Ok seen) a b told told_later some same did h = tt
   broken_at_reply now later q r t u d e asked polled new found from octets seen_octets (Err failure) a b told told_later some same did h = (
     a.0 ++ (b.0 ++ came from octets ∷ send_failed from h.0 ∷ []),
     now ∷ later ∷ [],
-    at_reply now later a.0 b.0 asked polled new from octets h.0 a.1 b.1 (subst (λ xs. Handles polled later from xs new replied h.0) same h.1),
+    at_reply now later a.0 b.0 asked polled new from octets h.0 a.1 b.1 (subst (λ xs. Handles polled later from.peer xs new replied h.0) same h.1),
     behind now q r u asked polled a b (came from octets ∷ send_failed from h.0 ∷ []) (t, subst (λ o. does r (receiving (Ok o) octets) t) some did, chain_one does t (send_failed from h.0) u h.2),
     (d, told, (e, told_later, refl)),
   )

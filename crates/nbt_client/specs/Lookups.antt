@@ -1,11 +1,11 @@
 -- A lookup over a port and a clock, turn by turn (our profile).
 use Rattle.std.specs.Prelude.{◌≡◌, ℕ, ◌+◌, ◌<◌, Bool, true, false, List, [], ◌∷◌, ◌++◌, length, Some, None}
-use Rattle.nbt_name.specs.declared.addr.Addr.{Addr}
 use Rattle.nbt_node.specs.declared.fault.LookupFault.{LookupFault}
 use Rattle.nbt_node.specs.Node.{NodeValue, lookup_open}
 use Rattle.nbt_node.specs.Moves.{Told, nothing, finds, finds_none, lists}
 use Rattle.nbt_node.specs.Datagrams.{Handles}
-use Rattle.nbt_port.specs.PortCalls.{PortCall, nothing_came, came, receive_failed, sent, send_failed, Chain}
+use Rattle.nbt_port.specs.declared.port.Route.{Route}
+use Rattle.nbt_port.specs.PortCalls.{PortCall, nothing_came, came, receive_failed, sent, send_failed, route_to, Chain}
 use Rattle.nbt_client.specs.Turning.{PollsAll, BreaksPolls}
 use Rattle.nbt_client.specs.declared.lookup.Ending.{Ending}
 use Rattle.nbt_client.specs.declared.lookup.Ending.TheVariants as e
@@ -31,8 +31,8 @@ moments_in turn = turn.first ∷ turn.second ∷ []
 -- clock went back is passed over.
 pub data Hears (now : ℕ) (old : NodeValue) : PortCall → Told → NodeValue → Type 0 where
   hears_nothing : Hears now old nothing_came nothing old
-  hears_back : (from : Addr) (octets : List ℕ) → now < old.last → Hears now old (came from octets) nothing old
-  hears : (from : Addr) (octets reply : List ℕ) (told : Told) (new : NodeValue) → Handles old now from octets new told reply → Hears now old (came from octets) told new
+  hears_back : (from : Route) (octets : List ℕ) → now < old.last → Hears now old (came from octets) nothing old
+  hears : (from : Route) (octets reply : List ℕ) (told : Told) (new : NodeValue) → Handles old now from.peer octets new told reply → Hears now old (came from octets) told new
 
 -- The polls of the first moment, each sent to its end; then what is heard at the second.
 pub record Takes (old : NodeValue) (turn : Turn) (told : Told) (new : NodeValue) : Type 0 where
@@ -72,7 +72,7 @@ pub record Waits {P C : Type 0} (does : P → PortCall → P → Type 0) (tells 
 -- What ended it, after a number of turns: a reply, of these octets; or a moment at which it doesn't go on, at which nothing is
 -- done; or that it had all its turns.
 pub data Ends {P C : Type 0} (does : P → PortCall → P → Type 0) (tells : C → ℕ → C → Type 0) (limit most count : ℕ) (old : Looking P C) : Ending → (octets : List ℕ) → Looking P C → Type 0 where
-  is_told : (from : Addr) (octets : List ℕ) (turn : Turn) (told : Told) (new : Looking P C) → GoesOn limit old.node turn.first → Takes old.node turn told new.node → is_end told ≡ true → turn.hearing ≡ came from octets
+  is_told : (from : Route) (octets : List ℕ) (turn : Turn) (told : Told) (new : Looking P C) → GoesOn limit old.node turn.first → Takes old.node turn told new.node → is_end told ≡ true → turn.hearing ≡ came from octets
       → Chain does old.port (acts_in turn) new.port → Chain tells old.clock (moments_in turn) new.clock → Ends does tells limit most count old e.Told octets new
   is_late : (now : ℕ) (octets : List ℕ) (clock : C) → ¬ GoesOn limit old.node now → tells old.clock now clock → Ends does tells limit most count old e.NoReply octets (record old { clock = clock })
   is_spent : (octets : List ℕ) → count ≡ most → Ends does tells limit most count old e.NoReply octets old
@@ -93,7 +93,7 @@ pub data Looks {P C : Type 0} (does : P → PortCall → P → Type 0) (tells : 
   is_refused : (now : ℕ) (fault : LookupFault) (octets : List ℕ) (clock : C) → tells old_clock now clock → refusal_of old now question ≡ Some fault
       → Looks does tells question patience most old_port old_clock old (e.Refused fault) octets old_port clock old
   is_asked : (now : ℕ) (request octets : List ℕ) (ending : Ending) (asked : P) (read : C) (opened : NodeValue) (port : P) (clock : C) (new : NodeValue) → tells old_clock now read
-      → refusal_of old now question ≡ None → Begins old now question opened request → does old_port (sent (end_of question) request) asked
+      → refusal_of old now question ≡ None → Begins old now question opened request → does old_port (sent (route_to (end_of question)) request) asked
       → Waited does tells (now + patience) most ending octets (record { port = asked; clock = read; node = opened }) (record { port = port; clock = clock; node = new })
       → Looks does tells question patience most old_port old_clock old ending octets port clock new
 
@@ -118,7 +118,7 @@ pub record Broken {P C : Type 0} (does : P → PortCall → P → Type 0) (tells
 pub data Fails {P C : Type 0} (does : P → PortCall → P → Type 0) (tells : C → ℕ → C → Type 0) (question : Question) (patience most : ℕ)
     (old_port : P) (old_clock : C) (old : NodeValue) : P → C → NodeValue → Type 0 where
   at_question : (now : ℕ) (request : List ℕ) (port : P) (clock : C) (new : NodeValue) → tells old_clock now clock → refusal_of old now question ≡ None → Begins old now question new request
-      → does old_port (send_failed (end_of question) request) port → Fails does tells question patience most old_port old_clock old port clock new
+      → does old_port (send_failed (route_to (end_of question)) request) port → Fails does tells question patience most old_port old_clock old port clock new
   at_turn : (now : ℕ) (request : List ℕ) (asked : P) (read : C) (opened : NodeValue) (port : P) (clock : C) (new : NodeValue) → tells old_clock now read → refusal_of old now question ≡ None
-      → Begins old now question opened request → does old_port (sent (end_of question) request) asked → Broken does tells (now + patience) most (record { port = asked; clock = read; node = opened }) (record { port = port; clock = clock; node = new })
+      → Begins old now question opened request → does old_port (sent (route_to (end_of question)) request) asked → Broken does tells (now + patience) most (record { port = asked; clock = read; node = opened }) (record { port = port; clock = clock; node = new })
       → Fails does tells question patience most old_port old_clock old port clock new

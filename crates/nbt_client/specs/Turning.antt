@@ -9,7 +9,8 @@ use Rattle.nbt_node.specs.Datagrams.{Handles}
 use Rattle.nbt_client.specs.declared.turning.Seen.{Seen}
 use Rattle.nbt_client.specs.declared.turning.Seen.TheVariants as s
 use Rattle.nbt_client.specs.declared.turning.Want.{Want}
-use Rattle.nbt_port.specs.PortCalls.{PortCall, nothing_came, came, receive_failed, sent, send_failed, Chain}
+use Rattle.nbt_port.specs.declared.port.Route.{Route}
+use Rattle.nbt_port.specs.PortCalls.{PortCall, nothing_came, came, receive_failed, sent, send_failed, route_to, Chain}
 
 -- ---- the ask
 
@@ -20,15 +21,14 @@ pub record AsksFor (now : ℕ) (want : Want) (old : NodeValue) (octets : List �
 
 -- The request is sent to the server. An ask that is refused is passed over.
 pub data Asks (server : Addr) (now : ℕ) (want : Want) (old : NodeValue) : List PortCall → NodeValue → Type 0 where
-  asks : (octets : List ℕ) (new : NodeValue) → AsksFor now want old octets new → Asks server now want old (sent server octets ∷ []) new
+  asks : (octets : List ℕ) (new : NodeValue) → AsksFor now want old octets new → Asks server now want old (sent (route_to server) octets ∷ []) new
   may_not_ask : (fault : AskFault) → ask_refusal old now want.name ≡ Some fault → Asks server now want old [] old
 
 -- ---- the polls
 
 -- a poll has something for an end, which is sent there
-abbrev pub PollsTo : (now : ℕ) → NodeValue → PortCall → NodeValue → Type 0
-PollsTo now old (sent to octets) new = Polls old now new (Some to) octets
-PollsTo now old act new = ⊥
+pub data PollsTo (now : ℕ) (old : NodeValue) : PortCall → NodeValue → Type 0 where
+  polls_to : (to : Addr) (octets : List ℕ) (new : NodeValue) → Polls old now new (Some to) octets → PollsTo now old (sent (route_to to) octets) new
 
 -- Polls go on until one has nothing. One that is refused since the clock went back ends them too, and is passed over.
 pub data EndsPolls (now : ℕ) (old : NodeValue) : NodeValue → Type 0 where
@@ -43,7 +43,7 @@ pub record PollsAll (now : ℕ) (old : NodeValue) (acts : List PortCall) (new : 
 -- Polls go on until the send of one of them fails.
 pub data BreaksPolls (now : ℕ) (old : NodeValue) : List PortCall → NodeValue → Type 0 where
   at_send : (polling : List PortCall) (mid new : NodeValue) (to : Addr) (octets : List ℕ) → Chain (PollsTo now) old polling mid → Polls mid now new (Some to) octets
-      → BreaksPolls now old (polling ++ send_failed to octets ∷ []) new
+      → BreaksPolls now old (polling ++ send_failed (route_to to) octets ∷ []) new
 
 -- ---- what is heard
 
@@ -55,13 +55,13 @@ seen_of (is_refused rcode) = s.Refused rcode
 seen_of is_lost = s.Lost
 seen_of told = s.Nothing
 
--- The node takes what came, if anything, at a moment that doesn't go back. The reply to a status request is sent to its
--- sender. A datagram that the node refuses since the clock went back is passed over.
+-- The node takes what came, if anything, at a moment that doesn't go back. The reply to a status request is sent by the
+-- request's own route. A datagram that the node refuses since the clock went back is passed over.
 pub data TurnHears (now : ℕ) (old : NodeValue) : List PortCall → Seen → NodeValue → Type 0 where
   hears_nothing : TurnHears now old (nothing_came ∷ []) s.Nothing old
-  hears : (from : Addr) (octets : List ℕ) (told : Told) (new : NodeValue) → told ≢ replied → Handles old now from octets new told [] → TurnHears now old (came from octets ∷ []) (seen_of told) new
-  replies : (from : Addr) (octets reply : List ℕ) (new : NodeValue) → Handles old now from octets new replied reply → TurnHears now old (came from octets ∷ sent from reply ∷ []) s.Nothing new
-  hears_back : (from : Addr) (octets : List ℕ) → now < old.last → TurnHears now old (came from octets ∷ []) s.Nothing old
+  hears : (from : Route) (octets : List ℕ) (told : Told) (new : NodeValue) → told ≢ replied → Handles old now from.peer octets new told [] → TurnHears now old (came from octets ∷ []) (seen_of told) new
+  replies : (from : Route) (octets reply : List ℕ) (new : NodeValue) → Handles old now from.peer octets new replied reply → TurnHears now old (came from octets ∷ sent from reply ∷ []) s.Nothing new
+  hears_back : (from : Route) (octets : List ℕ) → now < old.last → TurnHears now old (came from octets ∷ []) s.Nothing old
 
 -- ---- a turn
 
@@ -83,11 +83,11 @@ pub record TakesTurn (server : Addr) (want : Want) (old : NodeValue) (acts : Lis
 -- A turn in which the device fails: nothing else of the turn is done, and the node is as after the call of it that made
 -- the sending, or as it was before the receive.
 pub data BreaksTurn (server : Addr) (want : Want) (old : NodeValue) : List PortCall → List ℕ → NodeValue → Type 0 where
-  at_ask : (first : ℕ) (octets : List ℕ) (new : NodeValue) → AsksFor first want old octets new → BreaksTurn server want old (send_failed server octets ∷ []) (first ∷ []) new
+  at_ask : (first : ℕ) (octets : List ℕ) (new : NodeValue) → AsksFor first want old octets new → BreaksTurn server want old (send_failed (route_to server) octets ∷ []) (first ∷ []) new
   at_poll : (first : ℕ) (asking polling : List PortCall) (asked new : NodeValue) → Asks server first want old asking asked → BreaksPolls first asked polling new
       → BreaksTurn server want old (asking ++ polling) (first ∷ []) new
   at_receive : (first : ℕ) (asking polling : List PortCall) (asked new : NodeValue) → Asks server first want old asking asked → PollsAll first asked polling new
       → BreaksTurn server want old (asking ++ (polling ++ receive_failed ∷ [])) (first ∷ []) new
-  at_reply : (first second : ℕ) (asking polling : List PortCall) (asked polled new : NodeValue) (from : Addr) (octets reply : List ℕ) → Asks server first want old asking asked
-      → PollsAll first asked polling polled → Handles polled second from octets new replied reply
+  at_reply : (first second : ℕ) (asking polling : List PortCall) (asked polled new : NodeValue) (from : Route) (octets reply : List ℕ) → Asks server first want old asking asked
+      → PollsAll first asked polling polled → Handles polled second from.peer octets new replied reply
       → BreaksTurn server want old (asking ++ (polling ++ came from octets ∷ send_failed from reply ∷ [])) (first ∷ second ∷ []) new

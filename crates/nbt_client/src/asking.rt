@@ -1,7 +1,8 @@
 //! A lookup over a port and a clock.
 
-ghost use Rattle.std.specs.Prelude.{◌≡◌, ◌≢◌, ◌++◌, ◌+◌, ◌<◌, ◌^◌, ◌⊎◌, ℕ, List, Err, IfOk, IfErr};
+ghost use Rattle.std.specs.Prelude.{◌≡◌, ◌≢◌, ◌++◌, ◌⊎◌, ℕ, List, Err, IfOk, IfErr};
 ghost use Rattle.std.specs.String.{string_bytes};
+ghost use Rattle.nbt_port.specs.PortCalls.{one_more};
 ghost use Rattle.nbt_client.specs.Asking.{Asks, AskFails, started_node};
 
 use crate::answer::{Answer, write_ending};
@@ -33,14 +34,13 @@ pub fn ask<P: Port, C: Clock>(
     patience: u32,
     out: &mut String,
 ) -> Result<Answer, Fault>
-    requires failure_count { P.failures port.old < 2 ^ 62 }
     ensures ok { IfOk result (λ answer. (text : List ℕ) × Asks P.does C.tells own question.now patience port.old clock.old answer text port.new clock.new
         × (string_bytes out.new ≡ string_bytes out.old ++ text)) }
     ensures device { result ≡ Err Fault.Device → AskFails P.does C.tells own question.now patience port.old clock.old port.new clock.new
         × (string_bytes out.new ≡ string_bytes out.old) }
     ensures faults { IfErr result (λ fault. (fault ≡ Fault.Device) ⊎ (fault ≡ Fault.Memory)) }
     // It is `Device` exactly where a call of the port failed.
-    ensures failed { result ≡ Err Fault.Device → P.failures port.new ≡ P.failures port.old + 1 }
+    ensures failed { result ≡ Err Fault.Device → P.failures port.new ≡ one_more (P.failures port.old) }
     ensures well { result ≢ Err Fault.Device → P.failures port.new ≡ P.failures port.old }
 {
     let now = clock.now();

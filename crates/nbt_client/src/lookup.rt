@@ -1,6 +1,6 @@
 //! A lookup from its request to its reply.
 
-ghost use Rattle.std.specs.Prelude.{◌<◌, ◌^◌, ◌+◌, IfOk, OnErr};
+ghost use Rattle.std.specs.Prelude.{◌<◌, ◌^◌, IfOk, OnErr};
 ghost use Rattle.nbt_port.specs.PortCalls.{CountsFailure};
 ghost use Rattle.nbt_client.specs.Lookups.{Waited, Looks, Broken, Fails};
 
@@ -8,7 +8,7 @@ use crate::lookup_turn::{Progress, take_turn};
 use crate::question::{Question, begin, end_of};
 use arrayvec::ArrayVec;
 use nbt_node::{LookupFault, Node};
-use nbt_port::{Clock, Device, Port};
+use nbt_port::{Clock, Device, Port, Route};
 
 /// How a lookup ended.
 #[derive(Clone, Copy, Debug, PartialEq, Eq)]
@@ -37,7 +37,6 @@ pub fn look_up<P: Port, C: Clock, const N: usize>(
     most: u64,
     octets: &mut ArrayVec<u8, 2048>,
 ) -> Result<Ending, Device>
-    requires failure_count { P.failures port.old < 2 ^ 62 }
     requires patience { patience < 2 ^ 62 }
     ensures ok { IfOk result (λ ending. Looks P.does C.tells question.now patience most port.old clock.old node.old ending octets.new.items port.new clock.new node.new) }
     ensures err { OnErr result (Fails P.does C.tells question.now patience most port.old clock.old node.old port.new clock.new node.new) }
@@ -49,7 +48,7 @@ pub fn look_up<P: Port, C: Clock, const N: usize>(
     if let Err(fault) = begin(question, node, now, &mut out) {
         return Ok(Ending::Refused(fault));
     }
-    port.send(end_of(question), out.as_slice())?;
+    port.send(Route::to(end_of(question)), out.as_slice())?;
     wait(port, clock, node, now.get() + patience, most, octets)
 }
 
@@ -62,7 +61,6 @@ fn wait<P: Port, C: Clock, const N: usize>(
     most: u64,
     octets: &mut ArrayVec<u8, 2048>,
 ) -> Result<Ending, Device>
-    requires failure_count { P.failures port.old < 2 ^ 62 }
     ensures ok { IfOk result (λ ending. Waited P.does C.tells limit most ending octets.new.items
         (record { port = port.old; clock = clock.old; node = node.old }) (record { port = port.new; clock = clock.new; node = node.new })) }
     ensures err { OnErr result (Broken P.does C.tells limit most

@@ -1,6 +1,6 @@
 //! One turn of a lookup.
 
-ghost use Rattle.std.specs.Prelude.{◌≡◌, ◌<◌, ◌^◌, IfOk, OnErr, IsTrue, ◌↔◌};
+ghost use Rattle.std.specs.Prelude.{◌≡◌, IfOk, OnErr, IsTrue, ◌↔◌};
 ghost use Rattle.nbt_node.specs.Moves.{Told, told_of};
 ghost use Rattle.nbt_port.specs.PortCalls.{came, receive_failed, CountsFailure};
 ghost use Rattle.nbt_client.specs.Lookups.{Hears, GoesOn, is_end, BreaksTurn};
@@ -9,9 +9,8 @@ ghost use Rattle.nbt_client.specs.Inner.Steps.{TurnIs, HeardIs};
 use crate::turning::poll_all;
 use arrayvec::ArrayVec;
 use nbt_lease::Moment;
-use nbt_name::Addr;
 use nbt_node::{Event, Node};
-use nbt_port::{Clock, Device, Port};
+use nbt_port::{Clock, Device, Port, Route};
 
 /// What came of a turn of a lookup.
 #[derive(Clone, Copy, Debug, PartialEq, Eq)]
@@ -39,7 +38,6 @@ pub fn take_turn<P: Port, C: Clock, const N: usize>(
     limit: u64,
     octets: &mut ArrayVec<u8, 2048>,
 ) -> Result<Progress, Device>
-    requires failure_count { P.failures port.old < 2 ^ 62 }
     ensures err { OnErr result (BreaksTurn P.does C.tells limit
         (record { port = port.old; clock = clock.old; node = node.old }) (record { port = port.new; clock = clock.new; node = node.new })) }
     ensures ok { IfOk result (λ progress. TurnIs P.does C.tells limit progress octets.new.items
@@ -66,7 +64,6 @@ fn listen<P: Port, C: Clock, const N: usize>(
     octets: &mut ArrayVec<u8, 2048>,
     out: &mut ArrayVec<u8, 576>,
 ) -> Result<bool, Device>
-    requires failure_count { P.failures port.old < 2 ^ 62 }
     ensures err { OnErr result (P.does port.old receive_failed port.new × (node.new ≡ node.old) × (clock.new ≡ clock.old)) }
     ensures ok { IfOk result (λ ended. HeardIs P.does C.tells ended octets.new.items port.old clock.old node.old port.new clock.new node.new) }
     ensures device { CountsFailure (P.failures port.old) (P.failures port.new) result }
@@ -83,13 +80,13 @@ fn listen<P: Port, C: Clock, const N: usize>(
 fn hear<const N: usize>(
     node: &mut Node<N>,
     now: Moment,
-    from: Addr,
+    from: Route,
     octets: &[u8],
     out: &mut ArrayVec<u8, 576>,
 ) -> bool
     ensures { (told : Told) × Hears now node.old (came from octets.now) told node.new × (result ≡ is_end told) }
 {
-    match node.on_datagram(now, from, octets, out) {
+    match node.on_datagram(now, from.peer, octets, out) {
         Ok(event) => is_end(event),
         Err(_) => false,
     }

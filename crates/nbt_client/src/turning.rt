@@ -1,17 +1,17 @@
 //! A node that registers a name and holds it, over a port and a clock.
 
-ghost use Rattle.std.specs.Prelude.{◌≡◌, ℕ, ◌<◌, ◌^◌, List, ◌∷◌, Some, IfSome, IsNone, IfOk, OnOk, OnErr};
+ghost use Rattle.std.specs.Prelude.{◌≡◌, ℕ, List, ◌∷◌, Some, IfSome, IsNone, IfOk, OnOk, OnErr};
 ghost use Rattle.nbt_node.specs.Moves.{told_of, replied};
 ghost use Rattle.nbt_node.specs.Calls.{Polls};
 ghost use Rattle.nbt_node.specs.Datagrams.{Handles};
-ghost use Rattle.nbt_port.specs.PortCalls.{PortCall, came, receive_failed, send_failed, Chain, CountsFailure};
+ghost use Rattle.nbt_port.specs.PortCalls.{PortCall, came, receive_failed, send_failed, route_to, Chain, CountsFailure};
 ghost use Rattle.nbt_client.specs.Turning.{AsksFor, Asks, PollsAll, EndsPolls, BreaksPolls, TurnHears, seen_of, TakesTurn, BreaksTurn};
 
 use arrayvec::ArrayVec;
 use nbt_lease::Moment;
 use nbt_name::{Addr, Kind, Name};
 use nbt_node::{Event, Node};
-use nbt_port::{Clock, Device, Port};
+use nbt_port::{Clock, Device, Port, Route};
 
 /// The most names that a node has slots for.
 pub const SLOTS: usize = 14;
@@ -44,10 +44,10 @@ pub enum Seen {
 
 /// One turn of a node. The clock is read, and the name is requested of `server`, unless the node refuses that. The node is
 /// polled until it has nothing to send, each datagram going to its destination. Then the port receives once, the clock is read
-/// again, and the node handles what came; the reply to a status request goes to its sender. Returns what came of it. What the
-/// node refuses since the clock went back is ignored. Refused with `Device` at the first call of the port that fails: nothing
-/// else of the turn is done, and the node is as it was before the receive, or as after the call that made the sending, which is
-/// lost.
+/// again, and the node handles what came; the reply to a status request goes by the route of the request. Returns what came of
+/// it. What the node refuses since the clock went back is ignored. Refused with `Device` at the first call of the port that
+/// fails: nothing else of the turn is done, and the node is as it was before the receive, or as after the call that made the
+/// sending, which is lost.
 pub fn node_turn<P: Port, C: Clock, const N: usize>(
     port: &mut P,
     clock: &mut C,
@@ -55,7 +55,6 @@ pub fn node_turn<P: Port, C: Clock, const N: usize>(
     server: Addr,
     want: &Want,
 ) -> Result<Seen, Device>
-    requires failure_count { P.failures port.old < 2 ^ 62 }
     ensures ok { IfOk result (λ seen. (acts : List PortCall) × (moments : List ℕ) × TakesTurn server want.now node.old acts moments seen node.new
         × Chain P.does port.old acts port.new × Chain C.tells clock.old moments clock.new) }
     ensures err { OnErr result ((acts : List PortCall) × (moments : List ℕ) × BreaksTurn server want.now node.old acts moments node.new
@@ -85,13 +84,12 @@ fn ask<P: Port, const N: usize>(
     want: &Want,
     out: &mut ArrayVec<u8, 576>,
 ) -> Result<(), Device>
-    requires failure_count { P.failures port.old < 2 ^ 62 }
     ensures ok { OnOk result ((acts : List PortCall) × Asks server now want.now node.old acts node.new × Chain P.does port.old acts port.new) }
-    ensures err { OnErr result ((octets : List ℕ) × AsksFor now want.now node.old octets node.new × P.does port.old (send_failed server octets) port.new) }
+    ensures err { OnErr result ((octets : List ℕ) × AsksFor now want.now node.old octets node.new × P.does port.old (send_failed (route_to server) octets) port.new) }
     ensures device { CountsFailure (P.failures port.old) (P.failures port.new) result }
 {
     match node.ask(now, &want.name.lend(), want.kind, want.ttl, out) {
-        Ok(()) => port.send(server, out.as_slice()),
+        Ok(()) => port.send(Route::to(server), out.as_slice()),
         Err(_) => Ok(()),
     }
 }
@@ -105,7 +103,6 @@ pub fn poll_all<P: Port, const N: usize>(
     now: Moment,
     out: &mut ArrayVec<u8, 576>,
 ) -> Result<(), Device>
-    requires failure_count { P.failures port.old < 2 ^ 62 }
     ensures ok { OnOk result ((acts : List PortCall) × PollsAll now node.old acts node.new × Chain P.does port.old acts port.new) }
     ensures err { OnErr result ((acts : List PortCall) × BreaksPolls now node.old acts node.new × Chain P.does port.old acts port.new) }
     // It is refused exactly where the port's count of failures grew.
@@ -113,7 +110,7 @@ pub fn poll_all<P: Port, const N: usize>(
 {
     nbt_node::laws::settling_ends();
     while let Some(to) = next_due(node, now, out) {
-        port.send(to, out.as_slice())?;
+        port.send(Route::to(to), out.as_slice())?;
     }
     Ok(())
 }
@@ -133,21 +130,20 @@ fn next_due<const N: usize>(
     }
 }
 
-/// Handles a datagram, and sends the reply to a status request.
+/// Handles a datagram, and sends the reply to a status request by the same route.
 fn hear<P: Port, const N: usize>(
     port: &mut P,
     node: &mut Node<N>,
     now: Moment,
-    from: Addr,
+    from: Route,
     octets: &[u8],
     out: &mut ArrayVec<u8, 576>,
 ) -> Result<Seen, Device>
-    requires failure_count { P.failures port.old < 2 ^ 62 }
     ensures ok { IfOk result (λ seen. (acts : List PortCall) × TurnHears now node.old (came from octets.now ∷ acts) seen node.new × Chain P.does port.old acts port.new) }
-    ensures err { OnErr result ((reply : List ℕ) × Handles node.old now from octets.now node.new replied reply × P.does port.old (send_failed from reply) port.new) }
+    ensures err { OnErr result ((reply : List ℕ) × Handles node.old now from.peer octets.now node.new replied reply × P.does port.old (send_failed from reply) port.new) }
     ensures device { CountsFailure (P.failures port.old) (P.failures port.new) result }
 {
-    let Ok(event) = node.on_datagram(now, from, octets, out) else {
+    let Ok(event) = node.on_datagram(now, from.peer, octets, out) else {
         return Ok(Seen::Nothing);
     };
     match event {

@@ -3,13 +3,13 @@
 use Rattle.std.specs.Prelude.{◌≡◌, ℕ, ◌<◌, Bool, true, false, not, ◌&&◌, nat_eq, List, [], filter, Any, Option, Some, None}
 use Rattle.std.specs.List.{list_any}
 use Rattle.nbt_name.specs.Wire.{NameValue, same_name}
-use Rattle.nbt_name.specs.declared.addr.Addr.{Addr}
 use Rattle.nbt_name.specs.declared.addr.Kind.{Kind}
 use Rattle.nbt_name.specs.declared.addr.Kind.TheVariants.{Unique, Group}
 use Rattle.nbt_packet.specs.Message.{release}
 use Rattle.nbt_packet.specs.Spelling.{Spells}
 use Rattle.nbt_lease.specs.Lease.{Rows}
 use Rattle.nbt_lease.specs.declared.lease.Lease.{Lease}
+use Rattle.nbt_port.specs.declared.port.Route.{Route}
 use Rattle.nbt_port.specs.PortCalls.{PortCall, came}
 use Rattle.nbt_front.specs.FixedNames.{FixedNames, FixedValue, fixed_of}
 
@@ -45,10 +45,10 @@ ReleasesOwn ip octets name = (id : ℕ) × (kind : Kind) × Spells octets (relea
 
 -- the call is a datagram that releases a name so
 abbrev pub IsOwnRelease : PortCall → Type 0
-IsOwnRelease call = (from : Addr) × (octets : List ℕ) × (name : NameValue) × (call ≡ came from octets) × ReleasesOwn from.ip octets name
+IsOwnRelease call = (from : Route) × (octets : List ℕ) × (name : NameValue) × (call ≡ came from octets) × ReleasesOwn from.peer.ip octets name
 
 -- What is left of them after a call: a release takes the lease of its own address out, and nothing else does.
 pub data Leaves (kept : Rows) : PortCall → Rows → Type 0 where
-  takes_out : (from : Addr) (octets : List ℕ) (name : NameValue) → ReleasesOwn from.ip octets name → Leaves kept (came from octets) (without name from.ip kept)
+  takes_out : (from : Route) (octets : List ℕ) (name : NameValue) → ReleasesOwn from.peer.ip octets name → Leaves kept (came from octets) (without name from.peer.ip kept)
   leaves_all : (call : PortCall) → ¬ IsOwnRelease call → Leaves kept call kept
   leaves_none : (call : PortCall) → kept ≡ [] → Leaves kept call kept

@@ -13,7 +13,7 @@ use crate::telling::Notes;
 use arrayvec::ArrayVec;
 use nbt_lease::{Lease, Moment};
 use nbt_name::{Addr, Name};
-use nbt_port::{Clock, OwnReplies};
+use nbt_port::{Clock, OwnReplies, Route};
 use std::alloc::Global;
 use std::io::Write;
 use std::marker::Model;
@@ -64,16 +64,16 @@ impl<'a, C> Desk<'a, C> {
         self.replied
     }
 
-    /// A datagram from this sender is handed on: a lease that it releases stands in the way no longer.
-    pub(crate) fn hand_on(&mut self, from: Addr, octets: &[u8])
+    /// A datagram that came by this route is handed on: a lease that it releases stands in the way no longer.
+    pub(crate) fn hand_on(&mut self, from: Route, octets: &[u8])
         ensures front { self.new.front ≡ self.old.front }
         ensures left { Leaves self.old.kept (came from octets.now) self.new.kept }
     {
         if self.kept.is_empty() {
             return;
         }
-        if let Some(name) = name_released(from.ip, octets) {
-            take_out(&mut self.kept, &name, from.ip);
+        if let Some(name) = name_released(from.peer.ip, octets) {
+            take_out(&mut self.kept, &name, from.peer.ip);
         }
     }
 

@@ -6,8 +6,7 @@ ghost use Rattle.nbt_front.specs.FrontPort.{FrontDoes};
 
 use crate::desk::Desk;
 use arrayvec::ArrayVec;
-use nbt_name::Addr;
-use nbt_port::{Cause, Clock, Device, OwnReplies, Port};
+use nbt_port::{Cause, Clock, Device, OwnReplies, Port, Route};
 use std::io::Write;
 use std::marker::Model;
 
@@ -49,28 +48,28 @@ impl<'a, P, C> FrontPort<'a, P, C> {
 }
 
 impl<'a, P: Port, C: Clock> FrontPort<'a, P, C> {
-    /// Answers what came beneath, where the front decides of it; else hands it on. Refused with `Device` where the reply can't be sent.
+    /// Answers what came beneath, by its route, where the front decides of it; else hands it on. Refused with `Device` where the
+    /// reply can't be sent.
     fn pass(
         &mut self,
-        from: Option<Addr>,
+        from: Option<Route>,
         octets: &mut ArrayVec<u8, 2048>,
-    ) -> Result<Option<Addr>, Device>
-        requires failure_count { P.failures self.old.port < 2 ^ 62 }
+    ) -> Result<Option<Route>, Device>
         ensures does { (before : P) → P.does before (receiving (Ok from) octets.old.items) self.old.port
             → FrontDoes P.does (record { port = before; desk = self.old.desk }) (receiving result octets.new.items) self.new }
         ensures count { CountsFailure (P.failures self.old.port) (P.failures self.new.port) result }
     {
-        let Some(sender) = from else {
+        let Some(route) = from else {
             return Ok(None);
         };
         let reply = &mut self.reply;
-        let Some(decision) = self.desk.decide(sender, octets.as_slice(), reply) else {
-            self.desk.hand_on(sender, octets.as_slice());
-            return Ok(Some(sender));
+        let Some(decision) = self.desk.decide(route.peer, octets.as_slice(), reply) else {
+            self.desk.hand_on(route, octets.as_slice());
+            return Ok(Some(route));
         };
         octets.clear();
-        self.beneath.send(sender, self.reply.as_slice())?;
-        self.desk.note(sender.ip, decision);
+        self.beneath.send(route, self.reply.as_slice())?;
+        self.desk.note(route.peer.ip, decision);
         Ok(None)
     }
 }
@@ -82,19 +81,19 @@ impl<P: Port, C: Clock> Port for FrontPort<'_, P, C> {
 
     ghost failures = { λ p. P.failures p.port };
 
-    fn receive(&mut self, octets: &mut ArrayVec<u8, 2048>) -> Result<Option<Addr>, Device> {
+    fn receive(&mut self, octets: &mut ArrayVec<u8, 2048>) -> Result<Option<Route>, Device> {
         self.desk.clear();
         let from = self.beneath.receive(octets)?;
         self.pass(from, octets)
     }
 
-    fn receive_now(&mut self, octets: &mut ArrayVec<u8, 2048>) -> Result<Option<Addr>, Device> {
+    fn receive_now(&mut self, octets: &mut ArrayVec<u8, 2048>) -> Result<Option<Route>, Device> {
         self.desk.clear();
         let from = self.beneath.receive_now(octets)?;
         self.pass(from, octets)
     }
 
-    fn send(&mut self, to: Addr, octets: &[u8]) -> Result<(), Device> {
+    fn send(&mut self, to: Route, octets: &[u8]) -> Result<(), Device> {
         self.beneath.send(to, octets)
     }
 

@@ -28,3 +28,10 @@ mod Beginning
 mod Starting
 -- the end of a host, by how the releases came out
 mod Ended
+-- names that a host left, before a request was sent
+pub mod Freshness
+-- their requests, the calls of a turn, and turns up to the end
+pub mod Sendings
+pub mod Passing
+-- what a receive was
+pub mod Receiving

@@ -1,9 +1,9 @@
 -- A receive, the look at the clocks after it, and what is made of what came.
 use Rattle.std.proofs.Common.{◌≡◌, ℕ, Bool, true, false, List, [], ◌∷◌, map, Ok, refl, sym, subst, ap, ◌∙◌}
 use Rattle.std.specs.Prelude.{Option, if◌then◌else◌}
-use Rattle.nbt_name.specs.declared.addr.Addr.{Addr}
 use Rattle.nbt_node.specs.Node.{NodeValue}
 use Rattle.nbt_node.specs.Calls.{started_from}
+use Rattle.nbt_port.specs.declared.port.Route.{Route}
 use Rattle.nbt_port.specs.PortCalls.{PortCall, send_failed, receiving}
 use Rattle.nbt_port.proofs.Chains.{chain_one}
 use Rattle.nbt_host.specs.declared.goal.Goal.{Goal}
@@ -36,7 +36,7 @@ is_awake t look host awake = ap (λ (slept : Bool). if slept then started_again 
 -- ---- what is made of what came
 
 module _ {P K : Type 0} (does : P → PortCall → P → Type 0) (looks : K → Look → K → Type 0) (t : Terms) (old : Releasing P K) (q r : P) (w : K) (second last : Look)
-    (found : Option Addr) (octets given : List ℕ) (goals : List Goal) (node : NodeValue)
+    (found : Option Route) (octets given : List ℕ) (goals : List Goal) (node : NodeValue)
     (did : does old.port (receiving (Ok found) octets) q) (looked : looks old.watch second w) (last_is : last ≡ with_earlier old.last second)
     (woke : ◌≡◌ {A = HostValue} (record { goals = goals; node = node }) (woken t second old.host)) where
   pub slept_over : true ≡ second.slept → Listens does looks t old (record { port = q; watch = w; last = last; host = record { goals = goals; node = node } })

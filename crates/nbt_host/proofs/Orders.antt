@@ -10,7 +10,7 @@ use Rattle.nbt_node.specs.Node.{NodeValue}
 use Rattle.nbt_node.specs.Moves.{ask, give_back}
 use Rattle.nbt_node.specs.Calls.{ask_refusal, release_refusal, Sends}
 use Rattle.nbt_port.specs.declared.port.Device.{Device}
-use Rattle.nbt_port.specs.PortCalls.{PortCall, sent, send_failed, sending, Chain}
+use Rattle.nbt_port.specs.PortCalls.{PortCall, sent, send_failed, sending, route_to, Chain}
 use Rattle.nbt_port.proofs.Chains.{chain_one, chain-append}
 use Rattle.nbt_host.specs.declared.goal.Goal.{Goal}
 use Rattle.nbt_host.specs.declared.goal.Stage.{Stage}
@@ -26,12 +26,12 @@ requested_none does server now p s = ([], of_none, refl)
 
 -- one more
 pub requested_on : {P : Type 0} (does : P → PortCall → P → Type 0) (server : Addr) (now : ℕ) (p q r : P) (s t u : NodeValue) (goals : List Goal) (i : ℕ) (goal : Goal) → i < length goals → goal ≡ get_or goals i goal
-    → Requested does server now p s (take i goals) q t → ((request : Option (List ℕ)) × Requests now t goal request u × Chain does q (sending_to server request) r)
+    → Requested does server now p s (take i goals) q t → ((request : Option (List ℕ)) × Requests now t goal request u × Chain does q (sending_to (route_to server) request) r)
     → Requested does server now p s (take (i + 1) goals) r u
 requested_on does server now p q r s t u goals i goal lt is x y = (
-  x.0 ++ sending_to server y.0,
-  subst (λ (gs : List Goal). RequestsAll server now s gs (x.0 ++ sending_to server y.0) u) (ap (λ (g : Goal). take i goals ++ g ∷ []) is ∙ sym (take_more goals i goal lt)) (of_next (take i goals) goal x.0 y.0 t u x.1 y.1),
-  chain-append does p q r x.0 (sending_to server y.0) x.2 y.2,
+  x.0 ++ sending_to (route_to server) y.0,
+  subst (λ (gs : List Goal). RequestsAll server now s gs (x.0 ++ sending_to (route_to server) y.0) u) (ap (λ (g : Goal). take i goals ++ g ∷ []) is ∙ sym (take_more goals i goal lt)) (of_next (take i goals) goal x.0 y.0 t u x.1 y.1),
+  chain-append does p q r x.0 (sending_to (route_to server) y.0) x.2 y.2,
 )
 
 pub requested_all : {P : Type 0} (does : P → PortCall → P → Type 0) (server : Addr) (now : ℕ) (p q : P) (s t : NodeValue) (goals : List Goal) (i : ℕ) → i ≡ length goals
@@ -43,23 +43,23 @@ split_at : (goals : List Goal) (i : ℕ) (goal : Goal) → i < length goals → 
 split_at goals i goal lt is = sym (take-append-drop i goals) ∙ ap (λ (rest : List Goal). take i goals ++ rest) (drop_more goals i goal lt ∙ ap (λ (g : Goal). g ∷ drop (i + 1) goals) (sym is))
 
 pub requests_broken : {P : Type 0} (does : P → PortCall → P → Type 0) (server : Addr) (now : ℕ) (p q r : P) (s t u : NodeValue) (goals : List Goal) (i : ℕ) (goal : Goal) → i < length goals → goal ≡ get_or goals i goal
-    → Requested does server now p s (take i goals) q t → ((octets : List ℕ) × Requests now t goal (Some octets) u × does q (send_failed server octets) r)
+    → Requested does server now p s (take i goals) q t → ((octets : List ℕ) × Requests now t goal (Some octets) u × does q (send_failed (route_to server) octets) r)
     → (acts : List PortCall) × BreaksRequests server now s goals acts u × Chain does p acts r
 requests_broken does server now p q r s t u goals i goal lt is x y = (
-  x.0 ++ send_failed server y.0 ∷ [],
-  subst (λ (gs : List Goal). BreaksRequests server now s gs (x.0 ++ send_failed server y.0 ∷ []) u) (sym (split_at goals i goal lt is)) (at_request (take i goals) (drop (i + 1) goals) goal x.0 y.0 t u x.1 y.1),
-  chain-append does p q r x.0 (send_failed server y.0 ∷ []) x.2 (chain_one does q (send_failed server y.0) r y.2),
+  x.0 ++ send_failed (route_to server) y.0 ∷ [],
+  subst (λ (gs : List Goal). BreaksRequests server now s gs (x.0 ++ send_failed (route_to server) y.0 ∷ []) u) (sym (split_at goals i goal lt is)) (at_request (take i goals) (drop (i + 1) goals) goal x.0 y.0 t u x.1 y.1),
+  chain-append does p q r x.0 (send_failed (route_to server) y.0 ∷ []) x.2 (chain_one does q (send_failed (route_to server) y.0) r y.2),
 )
 
 -- ---- one request, by what its sending returned
 
 pub request_sent : {P A : Type 0} (does : P → PortCall → P → Type 0) (server : Addr) (now : ℕ) (p q : P) (s t : NodeValue) (goal : Goal) (out : List ℕ) (result : Result A Device) → Requests now s goal (Some out) t
-    → does p (sending server out result) q → OnOk result ((request : Option (List ℕ)) × Requests now s goal request t × Chain does p (sending_to server request) q)
-request_sent does server now p q s t goal out (Ok done) x did = (Some out, x, chain_one does p (sent server out) q did)
+    → does p (sending (route_to server) out result) q → OnOk result ((request : Option (List ℕ)) × Requests now s goal request t × Chain does p (sending_to (route_to server) request) q)
+request_sent does server now p q s t goal out (Ok done) x did = (Some out, x, chain_one does p (sent (route_to server) out) q did)
 request_sent does server now p q s t goal out (Err failure) x did = tt
 
 pub request_lost : {P A : Type 0} (does : P → PortCall → P → Type 0) (server : Addr) (now : ℕ) (p q : P) (s t : NodeValue) (goal : Goal) (out : List ℕ) (result : Result A Device) → Requests now s goal (Some out) t
-    → does p (sending server out result) q → OnErr result ((octets : List ℕ) × Requests now s goal (Some octets) t × does p (send_failed server octets) q)
+    → does p (sending (route_to server) out result) q → OnErr result ((octets : List ℕ) × Requests now s goal (Some octets) t × does p (send_failed (route_to server) octets) q)
 request_lost does server now p q s t goal out (Ok done) x did = tt
 request_lost does server now p q s t goal out (Err failure) x did = (out, x, did)
 

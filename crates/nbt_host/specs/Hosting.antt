@@ -10,7 +10,8 @@ use Rattle.nbt_node.specs.Node.{NodeValue}
 use Rattle.nbt_node.specs.Moves.{give_back, Told}
 use Rattle.nbt_node.specs.Calls.{refreshing_soon, ask_refusal, release_refusal, Sends, started_from}
 use Rattle.nbt_node.specs.Datagrams.{Handles, Says}
-use Rattle.nbt_port.specs.PortCalls.{PortCall, nothing_came, came, receive_failed, sent, send_failed, receiving}
+use Rattle.nbt_port.specs.declared.port.Route.{Route}
+use Rattle.nbt_port.specs.PortCalls.{PortCall, nothing_came, came, receive_failed, sent, send_failed, receiving, route_to}
 use Rattle.nbt_client.specs.Turning.{AsksFor, PollsAll, BreaksPolls}
 use Rattle.nbt_host.specs.declared.goal.Goal.{Goal}
 use Rattle.nbt_host.specs.declared.goal.Stage.{Stage}
@@ -21,8 +22,8 @@ use Rattle.nbt_host.specs.Goals.{anew, may_ask, seen, heard_by}
 use Rattle.nbt_node.specs.Answering.{sent_back}
 use Rattle.nbt_host.specs.Noticing.{notice_of, doubted}
 
--- what is sent to an end, if anything
-abbrev pub sending_to : Addr → Option (List ℕ) → List PortCall
+-- what is sent by a route, if anything
+abbrev pub sending_to : Route → Option (List ℕ) → List PortCall
 sending_to to None = []
 sending_to to (Some octets) = sent to octets ∷ []
 
@@ -46,12 +47,12 @@ pub data Requests (now : ℕ) (old : NodeValue) (goal : Goal) : Option (List ℕ
 pub data RequestsAll (server : Addr) (now : ℕ) (old : NodeValue) : List Goal → List PortCall → NodeValue → Type 0 where
   of_none : RequestsAll server now old [] [] old
   of_next : (goals : List Goal) (goal : Goal) (acts : List PortCall) (request : Option (List ℕ)) (mid new : NodeValue) → RequestsAll server now old goals acts mid → Requests now mid goal request new
-      → RequestsAll server now old (goals ++ goal ∷ []) (acts ++ sending_to server request) new
+      → RequestsAll server now old (goals ++ goal ∷ []) (acts ++ sending_to (route_to server) request) new
 
 -- They go on until the sending of one fails.
 pub data BreaksRequests (server : Addr) (now : ℕ) (old : NodeValue) : List Goal → List PortCall → NodeValue → Type 0 where
   at_request : (goals rest : List Goal) (goal : Goal) (acts : List PortCall) (octets : List ℕ) (mid new : NodeValue) → RequestsAll server now old goals acts mid → Requests now mid goal (Some octets) new
-      → BreaksRequests server now old (goals ++ goal ∷ rest) (acts ++ send_failed server octets ∷ []) new
+      → BreaksRequests server now old (goals ++ goal ∷ rest) (acts ++ send_failed (route_to server) octets ∷ []) new
 
 -- ---- what is heard
 
@@ -60,18 +61,18 @@ abbrev pub doubting : NodeValue → Option NameValue → NodeValue
 doubting node None = node
 doubting node (Some name) = refreshing_soon node name
 
--- The node takes what came, if anything, at a moment that doesn't go back, and what there is to say is sent to its sender. Then it
--- doubts the name of which the server said unasked that it isn't held. A datagram that the node refuses since the clock went back
--- is passed over.
+-- The node takes what came, if anything, at a moment that doesn't go back, and what there is to say is sent by the datagram's own
+-- route. Then it doubts the name of which the server said unasked that it isn't held. A datagram that the node refuses since the
+-- clock went back is passed over.
 pub data HostHears (server : Addr) (now : ℕ) (old : NodeValue) : List PortCall → Option Notice → NodeValue → Type 0 where
   hears_nothing : HostHears server now old (nothing_came ∷ []) None old
-  hears_back : (from : Addr) (octets : List ℕ) → now < old.last → HostHears server now old (came from octets ∷ []) None old
-  hears : (from : Addr) (octets reply : List ℕ) (message : Option MessageValue) (told : Told) (new : NodeValue) → Handles old now from octets new told reply → Says octets message
-      → HostHears server now old (came from octets ∷ sending_to from (sent_back new now message told reply)) (notice_of server from message told) (doubting new (doubted server from message told))
+  hears_back : (from : Route) (octets : List ℕ) → now < old.last → HostHears server now old (came from octets ∷ []) None old
+  hears : (from : Route) (octets reply : List ℕ) (message : Option MessageValue) (told : Told) (new : NodeValue) → Handles old now from.peer octets new told reply → Says octets message
+      → HostHears server now old (came from octets ∷ sending_to from (sent_back new now message told reply)) (notice_of server from.peer message told) (doubting new (doubted server from.peer message told))
 
 -- What there is to say is lost.
 pub data LosesReply (now : ℕ) (old : NodeValue) : List PortCall → NodeValue → Type 0 where
-  loses_reply : (from : Addr) (octets reply lost : List ℕ) (message : Option MessageValue) (told : Told) (new : NodeValue) → Handles old now from octets new told reply → Says octets message
+  loses_reply : (from : Route) (octets reply lost : List ℕ) (message : Option MessageValue) (told : Told) (new : NodeValue) → Handles old now from.peer octets new told reply → Says octets message
       → sent_back new now message told reply ≡ Some lost → LosesReply now old (came from octets ∷ send_failed from lost ∷ []) new
 
 -- ---- a host
@@ -109,7 +110,7 @@ seen_all now host = record host { goals = map (seen host.node now) host.goals }
 
 -- What is made of what a receive was, at a look after it. Where the machine slept nothing is made of it.
 pub data HearsAfter (t : Terms) (look : Look) (old : HostValue) : List PortCall → HostValue → Type 0 where
-  sleeps : (found : Option Addr) (octets : List ℕ) → look.slept ≡ true → HearsAfter t look old (receiving (Ok found) octets ∷ []) (woken t look old)
+  sleeps : (found : Option Route) (octets : List ℕ) → look.slept ≡ true → HearsAfter t look old (receiving (Ok found) octets ∷ []) (woken t look old)
   wakes : (hearing : List PortCall) (notice : Option Notice) (new : NodeValue) → look.slept ≡ false → HostHears t.server look.at old.node hearing notice new
       → HearsAfter t look old hearing (record { goals = map (heard_by t.config new look.at notice) old.goals; node = new })
 

@@ -1,3 +1,4 @@
 -- What only the contracts of private functions cite: a caller needs none of it.
 pub mod Parts
+pub mod ReleaseSteps
 pub mod Through

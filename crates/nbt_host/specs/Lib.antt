@@ -5,7 +5,11 @@ pub mod Goals
 pub mod Host
 pub mod Hosting
 pub mod Inner
+pub mod Outcomes
 pub mod ReleaseLines
+pub mod ReleaseRunning
+pub mod ReleaseTurns
+pub mod Releases
 pub mod Releasing
 pub mod Running
 pub mod Sleeping

@@ -51,9 +51,9 @@ pub record TellsGoal (second : ℕ) (log : Bool) (goal : Goal) (text : List ℕ)
   pub text_is : text ≡ lapse ++ news ++ again
 
 -- The lines of each name, in the list's order.
-pub data TellsAll (tells : Goal → List ℕ → Type 0) : List Goal → List ℕ → Type 0 where
+pub data TellsAll {A : Type 0} (tells : A → List ℕ → Type 0) : List A → List ℕ → Type 0 where
   of_none : TellsAll tells [] []
-  of_next : (goals : List Goal) (goal : Goal) (text more : List ℕ) → TellsAll tells goals text → tells goal more → TellsAll tells (goals ++ goal ∷ []) (text ++ more)
+  of_next : (names : List A) (name : A) (text more : List ℕ) → TellsAll tells names text → tells name more → TellsAll tells (names ++ name ∷ []) (text ++ more)
 
 -- that the machine slept
 abbrev pub IsSleepLine : (second : ℕ) → (slept : Bool) → List ℕ → Type 0

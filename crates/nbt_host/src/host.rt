@@ -1,10 +1,9 @@
 //! A host that holds names, turn by turn, and what it prints.
 
-ghost use Rattle.std.specs.Prelude.{◌≡◌, ◌+◌, ◌<◌, ◌≤◌, ◌^◌, ℕ, List, map, length, true, OnOk, OnErr, IfOk, IfErr, MatchResult};
+ghost use Rattle.std.specs.Prelude.{◌≡◌, ℕ, List, map, length, true, OnOk, OnErr, IfOk, IfErr, MatchResult};
 ghost use Rattle.std.specs.List.{list_all};
 ghost use Rattle.std.specs.Io.KnownBytes.{Appends};
 ghost use Rattle.nbt_node.specs.Node.{NodeValue, slots_most};
-ghost use Rattle.nbt_port.specs.PortCalls.{CountsFailure};
 ghost use Rattle.nbt_log.specs.Dates.{second_at};
 ghost use Rattle.nbt_host.specs.Goals.{in_full, wanted, is_held};
 ghost use Rattle.nbt_host.specs.Begin.{begin_text};
@@ -192,10 +191,8 @@ impl<K: Watch + Drop> Host<K> {
 impl<K: Clock + Watch> Host<K> {
     /// One turn, as [`host_turn`] does it.
     fn turn<P: Port>(&mut self, port: &mut P, arguments: &HostArguments) -> Result<(), Device>
-        requires failure_count { P.failures port.old < 2 ^ 62 }
         ensures ok { OnOk result (Through HostTurn P.does K.looks arguments.now port.old self.old port.new self.new) }
         ensures err { OnErr result (Through HostBreaks P.does K.looks arguments.now port.old self.old port.new self.new) }
-        ensures device { CountsFailure (P.failures port.old) (P.failures port.new) result }
     {
         host_turn(
             port,
@@ -230,7 +227,6 @@ impl<K: Clock + Watch> Host<K> {
         writer: &mut W,
         errors: &mut E,
     ) -> Result<Result<Shown, Device>, Fault>
-        requires failure_count { P.failures port.old < 2 ^ 62 }
         ensures ok { IfOk result (λ turned. MatchResult turned
             (λ shown. TurnsWell P.does K.tells K.looks arguments.now
             (record { port = port.old; host = self.old; text = W.contents writer.old }) shown (record { port = port.new; host = self.new; text = W.contents writer.new }))
@@ -238,7 +234,6 @@ impl<K: Clock + Watch> Host<K> {
             (record { port = port.old; host = self.old; text = W.contents writer.old }) (record { port = port.new; host = self.new; text = W.contents writer.new }))) }
         ensures err { IfErr result (λ fault. CantPrint fault × TurnIsCut P.does K.tells K.looks arguments.now
             (record { port = port.old; host = self.old; text = W.contents writer.old }) (record { port = port.new; host = self.new; text = W.contents writer.new })) }
-        ensures count { P.failures port.new ≤ P.failures port.old + 1 }
     {
         let turned = self.turn(port, arguments);
         let shown = self.shown();
@@ -263,12 +258,10 @@ impl<K: Clock + Watch> Host<K> {
         writer: &mut W,
         errors: &mut E,
     ) -> Result<(), Fault>
-        requires failure_count { P.failures port.old < 2 ^ 61 }
         ensures ok { OnOk result (StaysUntil (TurnsOn P.does K.tells K.looks arguments.now until) (TurnsBadly P.does K.tells K.looks arguments.now) (TurnsLast P.does K.tells K.looks arguments.now until) forever
             (record { port = port.old; host = self.old; text = W.contents writer.old }) (record { port = port.new; host = self.new; text = W.contents writer.new })) }
         ensures err { IfErr result (λ fault. HostingFails P.does K.tells K.looks arguments.now until fault
             (record { port = port.old; host = self.old; text = W.contents writer.old }) (record { port = port.new; host = self.new; text = W.contents writer.new })) }
-        ensures failure_count { P.failures port.new < 2 ^ 62 }
     {
         let mut turn = StayingTurn {
             host: self,
@@ -291,7 +284,6 @@ impl<K: Clock + Watch> Host<K> {
         writer: &mut W,
         errors: &mut E,
     ) -> Result<(), Fault>
-        requires failure_count { P.failures port.old < 2 ^ 62 }
         ensures ok { OnOk result (GivesBack P.does K.tells K.looks (terms_of arguments.now)
             (record { port = port.old; host = self.old; text = W.contents writer.old }) (record { port = port.new; host = self.new; text = W.contents writer.new })) }
         ensures err { IfErr result (λ fault. GivingBackFails P.does K.tells K.looks (terms_of arguments.now) fault
@@ -324,7 +316,6 @@ impl<K: Clock + Watch> Host<K> {
         writer: &mut W,
         errors: &mut E,
     ) -> Result<bool, Fault>
-        requires failure_count { P.failures port.old < 2 ^ 61 }
         ensures ok { IfOk result (λ all. RunsHost P.does K.tells K.looks arguments.now until all
             (record { port = port.old; host = self.old; text = W.contents writer.old }) (record { port = port.new; host = self.new; text = W.contents writer.new })) }
         ensures err { IfErr result (λ fault. RunFails P.does K.tells K.looks arguments.now until fault
@@ -366,8 +357,6 @@ impl<P: Port, K: Clock + Watch, W: Write> Turn for StayingTurn<'_, '_, '_, '_, P
     ghost state = { λ t. record { port = t.port.now; host = t.host.now; text = W.contents t.writer.now } };
 
     ghost fixed = { λ t. (t.arguments.now, t.until, t.host.ghost_name ∷ t.port.ghost_name ∷ t.writer.ghost_name ∷ []) };
-
-    ghost failures = { λ t. P.failures t.port.now };
 
     ghost turns = { λ f. TurnsOn P.does K.tells K.looks f.0 f.1 };
 

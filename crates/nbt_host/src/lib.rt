@@ -11,6 +11,16 @@
 //! 2026-11-24T09:12:03Z refused FILER#00: held by another (6)
 //! 2026-11-24T09:12:03Z asks again for FILER#00 after 5 s, 10 s .. at most 5 min
 //! ```
+//!
+//! A [`Release`] is a name that a host which has ended left at its server (RFC 1002 sections 4.2.9 to 4.2.11). [`release_all`] sends
+//! the requests and takes the replies; [`write_outcomes`] prints what came of each name; [`run_release`] does both on this system, at
+//! the address and the port of the host, which therefore doesn't run beside it:
+//!
+//! ```text
+//! released FILER#20
+//! refused FILER#00: held by another (6)
+//! no reply for WORKGROUP#00
+//! ```
 #![tactic(auto)]
 
 mod arguments;
@@ -21,7 +31,13 @@ mod hearing;
 mod host;
 pub mod laws;
 mod news;
+mod outcomes;
+mod release;
+mod release_hearing;
 mod release_lines;
+mod release_running;
+mod release_sending;
+mod release_turns;
 mod releasing;
 mod requesting;
 mod running;
@@ -36,7 +52,11 @@ pub use event::{Event, write_event};
 pub use goal::{Goal, Refusal, Stage};
 pub use host::{Host, Shown};
 pub use news::News;
+pub use outcomes::{are_confirmed, write_outcomes};
+pub use release::Release;
 pub use release_lines::write_endings;
+pub use release_running::{release_over, run_release};
+pub use release_turns::{TURNS_MOST, release_all};
 pub use releasing::{GIVING_BACK, give_back};
 pub use running::{host_over, run_host};
 pub use sleeping::{Clocks, Reading, SLEEP, TwoClocks};

@@ -1,6 +1,6 @@
 //! A host that releases its names.
 
-ghost use Rattle.std.specs.Prelude.{◌≡◌, ◌≤◌, ◌<◌, ◌^◌, ◌↔◌, map, IsTrue, IfOk, OnOk, OnErr};
+ghost use Rattle.std.specs.Prelude.{◌≡◌, ◌≤◌, ◌↔◌, map, IsTrue, IfOk, OnOk, OnErr};
 ghost use Rattle.std.specs.List.{list_any};
 ghost use Rattle.nbt_node.specs.Node.{slots_most};
 ghost use Rattle.nbt_port.specs.PortCalls.{CountsFailure};
@@ -38,7 +38,6 @@ pub fn give_back<P: Port, K: Clock + Watch, const N: usize>(
 ) -> Result<(), Device>
     requires slots_at_least { 1 ≤ N }
     requires slots_at_most { N ≤ slots_most }
-    requires failure_count { P.failures port.old < 2 ^ 62 }
     ensures ok { OnOk result (GivesAllBack P.does K.tells K.looks (record { slots = N; server = server; config = config }) most
         (record { port = port.old; watch = watch.old; last = last.old; host = record { goals = goals.old; node = node.old } })
         (record { port = port.new; watch = watch.new; last = last.new; host = record { goals = goals.new; node = node.new } })) }
@@ -76,7 +75,6 @@ fn wait<P: Port, K: Clock + Watch, const N: usize>(
 ) -> Result<(), Device>
     requires slots_at_least { 1 ≤ N }
     requires slots_at_most { N ≤ slots_most }
-    requires failure_count { P.failures port.old < 2 ^ 62 }
     ensures ok { OnOk result (Ended P.does K.tells K.looks (record { slots = N; server = server; config = config }) limit most
         (record { port = port.old; watch = watch.old; last = last.old; host = record { goals = goals.old; node = node.old } })
         (record { port = port.new; watch = watch.new; last = last.new; host = record { goals = goals.new; node = node.new } })) }
@@ -107,7 +105,6 @@ fn end_turn<P: Port, K: Clock + Watch, const N: usize>(
 ) -> Result<bool, Device>
     requires slots_at_least { 1 ≤ N }
     requires slots_at_most { N ≤ slots_most }
-    requires failure_count { P.failures port.old < 2 ^ 62 }
     ensures ok { IfOk result (λ on. EndTurnIs P.does K.tells K.looks (record { slots = N; server = server; config = config }) limit on
         (record { port = port.old; watch = watch.old; last = last.old; host = record { goals = goals.old; node = node.old } })
         (record { port = port.new; watch = watch.new; last = last.new; host = record { goals = goals.new; node = node.new } })) }
@@ -132,12 +129,7 @@ fn goes_on(goals: &[Goal], limit: u64, now: Moment) -> bool
 fn is_any_open(goals: &[Goal]) -> bool
     ensures { result ≡ list_any is_open goals.now }
 {
-    for goal in goals {
-        if is_open(goal) {
-            return true;
-        }
-    }
-    false
+    goals.iter().any(|goal| is_open(goal))
 }
 
 /// Whether a reply to the release of this name is waited for.

@@ -1,7 +1,7 @@
 //! The requests of a host about its names, one a name.
 
-ghost use Rattle.std.specs.Prelude.{◌≡◌, ◌<◌, ◌^◌, List, [], ◌∷◌, ℕ, Option, Some, None, IfOk, OnOk, OnErr, if◌then◌else◌};
-ghost use Rattle.nbt_port.specs.PortCalls.{PortCall, send_failed, Chain, CountsFailure};
+ghost use Rattle.std.specs.Prelude.{◌≡◌, List, [], ◌∷◌, ℕ, Option, Some, None, IfOk, OnOk, OnErr, if◌then◌else◌};
+ghost use Rattle.nbt_port.specs.PortCalls.{PortCall, send_failed, route_to, Chain, CountsFailure};
 ghost use Rattle.nbt_host.specs.Hosting.{sending_to, Requests, RequestsAll, BreaksRequests};
 
 use crate::goal::{Goal, Stage};
@@ -9,7 +9,7 @@ use arrayvec::ArrayVec;
 use nbt_lease::Moment;
 use nbt_name::Addr;
 use nbt_node::Node;
-use nbt_port::{Device, Port};
+use nbt_port::{Device, Port, Route};
 
 /// Leaves in `out` the request about one name, if there is one. Returns whether there is.
 fn request_for<const N: usize>(
@@ -39,15 +39,14 @@ fn request<P: Port, const N: usize>(
     goal: &Goal,
     out: &mut ArrayVec<u8, 576>,
 ) -> Result<(), Device>
-    requires failure_count { P.failures port.old < 2 ^ 62 }
-    ensures ok { OnOk result ((request : Option (List ℕ)) × Requests now node.old goal.now request node.new × Chain P.does port.old (sending_to server request) port.new) }
-    ensures err { OnErr result ((octets : List ℕ) × Requests now node.old goal.now (Some octets) node.new × P.does port.old (send_failed server octets) port.new) }
+    ensures ok { OnOk result ((request : Option (List ℕ)) × Requests now node.old goal.now request node.new × Chain P.does port.old (sending_to (route_to server) request) port.new) }
+    ensures err { OnErr result ((octets : List ℕ) × Requests now node.old goal.now (Some octets) node.new × P.does port.old (send_failed (route_to server) octets) port.new) }
     ensures device { CountsFailure (P.failures port.old) (P.failures port.new) result }
 {
     if !request_for(node, now, goal, out) {
         return Ok(());
     }
-    port.send(server, out.as_slice())
+    port.send(Route::to(server), out.as_slice())
 }
 
 /// Sends the request about each name that has one, in the list's order. Refused with `Device` at the first sending that fails:
@@ -60,7 +59,6 @@ pub fn request_all<P: Port, const N: usize>(
     goals: &[Goal],
     out: &mut ArrayVec<u8, 576>,
 ) -> Result<(), Device>
-    requires failure_count { P.failures port.old < 2 ^ 62 }
     ensures ok { OnOk result ((acts : List PortCall) × RequestsAll server now node.old goals.now acts node.new × Chain P.does port.old acts port.new) }
     ensures err { OnErr result ((acts : List PortCall) × BreaksRequests server now node.old goals.now acts node.new × Chain P.does port.old acts port.new) }
     ensures device { CountsFailure (P.failures port.old) (P.failures port.new) result }

@@ -1,6 +1,6 @@
 //! A host over UDP and the system's clocks.
 
-ghost use Rattle.std.specs.Prelude.{◌≡◌, ◌<◌, ◌^◌, Err, IfOk, IfErr};
+ghost use Rattle.std.specs.Prelude.{◌≡◌, Err, IfOk, IfErr};
 ghost use Rattle.nbt_host.specs.Running.{HostsOver, HostOverFails, HostsHere, HostFailsHere};
 
 use crate::arguments::HostArguments;
@@ -59,7 +59,6 @@ pub fn host_over<P: Port, K: Clock + Watch + Drop, M: time::Clock, W: Write, E: 
     writer: &mut W,
     errors: &mut E,
 ) -> Result<bool, Fault>
-    requires failure_count { P.failures port.old < 2 ^ 61 }
     ensures ok { IfOk result (λ all. HostsOver P.does K.tells K.looks at arguments.now all port.old watch (W.contents writer.old) port.new (W.contents writer.new)) }
     ensures device { result ≡ Err Fault.Device → HostOverFails P.does K.tells K.looks at arguments.now Fault.Device port.old watch (W.contents writer.old) port.new (W.contents writer.new) }
 {

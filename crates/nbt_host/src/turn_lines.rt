@@ -108,24 +108,14 @@ pub fn has_lines(log: bool, slept: bool, goals: &[Goal]) -> bool
 fn is_any_silent(goals: &[Goal]) -> bool
     ensures { result ≡ list_any tells_silence goals.now }
 {
-    for goal in goals {
-        if goal.silent {
-            return true;
-        }
-    }
-    false
+    goals.iter().any(|goal| goal.silent)
 }
 
 /// Whether something is printed of a name.
 fn is_any_told(log: bool, goals: &[Goal]) -> bool
     ensures { result ≡ list_any (is_told log) goals.now }
 {
-    for goal in goals {
-        if is_told(log, goal) {
-            return true;
-        }
-    }
-    false
+    goals.iter().any(|goal| is_told(log, goal))
 }
 
 /// Whether something is printed of this name.

@@ -1,6 +1,6 @@
 //! One turn of a host.
 
-ghost use Rattle.std.specs.Prelude.{◌≡◌, ◌≤◌, ◌<◌, ◌^◌, List, ℕ, Some, None, Ok, OnOk, OnErr, map, if◌then◌else◌};
+ghost use Rattle.std.specs.Prelude.{◌≡◌, ◌≤◌, List, ℕ, Some, None, Ok, OnOk, OnErr, map, if◌then◌else◌};
 ghost use Rattle.nbt_node.specs.Node.{slots_most};
 ghost use Rattle.nbt_node.specs.Calls.{started_from};
 ghost use Rattle.nbt_port.specs.PortCalls.{PortCall, Chain, CountsFailure};
@@ -50,7 +50,6 @@ pub fn host_turn<P: Port, K: Watch, const N: usize>(
 ) -> Result<(), Device>
     requires slots_at_least { 1 ≤ N }
     requires slots_at_most { N ≤ slots_most }
-    requires failure_count { P.failures port.old < 2 ^ 62 }
     ensures ok { OnOk result ((acts : List PortCall) × (seen : List LookValue)
         × HostTurn (record { slots = N; server = server; config = config }) (record { goals = goals.old; node = node.old }) acts seen (record { goals = goals.new; node = node.new })
         × (last.new ≡ last_of last.old seen) × Chain P.does port.old acts port.new × Chain K.looks watch.old seen watch.new) }
@@ -104,7 +103,6 @@ fn listen<P: Port, K: Watch, const N: usize>(
 ) -> Result<(), Device>
     requires slots_at_least { 1 ≤ N }
     requires slots_at_most { N ≤ slots_most }
-    requires failure_count { P.failures port.old < 2 ^ 62 }
     ensures ok { OnOk result (Listens P.does K.looks (record { slots = N; server = server; config = config })
         (record { port = port.old; watch = watch.old; last = last.old; host = record { goals = goals.old; node = node.old } })
         (record { port = port.new; watch = watch.new; last = last.new; host = record { goals = goals.new; node = node.new } })) }

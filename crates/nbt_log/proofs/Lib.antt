@@ -6,3 +6,7 @@ mod Listing
 mod Remembering
 -- which kind is due
 mod Summing
+-- hosts that are printed one after the other
+mod HostRows
+-- a name filled up with spaces, and the one host whose it is
+mod Filling

@@ -4,3 +4,8 @@ pub mod Leases
 pub mod Limiting
 pub mod Lines
 pub mod Summary
+pub mod Gauges
+pub mod Hosts
+pub mod Metrics
+pub mod Stats
+pub mod Tallies

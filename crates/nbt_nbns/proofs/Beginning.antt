@@ -1,21 +1,19 @@
 -- A name server and its journal begin, over this machine.
-use Rattle.std.proofs.Common.{◌≡◌, ◌⊎◌, ℕ, ◌+◌, List, [], Option, Some, refl, subst, inl, inr}
+use Rattle.std.proofs.Common.{◌≡◌, ◌⊎◌, ℕ, List, [], Option, Some, refl, subst, inl, inr}
 use Rattle.std.specs.Io.KnownBytes.{Appends}
 use Rattle.nbt_name.specs.declared.addr.Addr.{Addr}
-use Rattle.nbt_lease.specs.Config.{milliseconds}
 use Rattle.nbt_server.specs.Serving.{ServerValue}
 use Rattle.nbt_server.specs.Calls.{ServerStarts, limited}
 use Rattle.nbt_port.specs.Clocks.{MachineTells, SteadyTells, SteadyBegins, SystemShows}
 use Rattle.nbt_port.specs.Udp.{PortsValue}
 use Rattle.nbt_port.specs.declared.fault.Fault.{Fault}
 use Rattle.nbt_port.specs.declared.fault.Fault.TheVariants.{Memory, Output}
-use Rattle.nbt_log.specs.Dates.{second_at}
 use Rattle.nbt_front.specs.Deciding.{DeskValue, desk_of}
-use Rattle.nbt_nbns.specs.Begin.{IsBegin}
+use Rattle.nbt_nbns.specs.Begin.{IsBegin, manner_at_first}
 use Rattle.nbt_nbns.specs.Inner.Starting.{Starts, StartsNot}
 use Rattle.nbt_nbns.specs.Running.{Nbns, Begins, new_journal}
 use Rattle.nbt_nbns.specs.Places.{FileValue}
-use Rattle.nbt_nbns.specs.declared.running.NbnsArguments.{NbnsArguments}
+use Rattle.nbt_nbns.specs.declared.arguments.NbnsArguments.{NbnsArguments}
 use Rattle.nbt_nbns.specs.declared.journal.Journal.{Journal}
 use Rattle.nbt_nbns.specs.declared.starting.Started.{Started}
 
@@ -39,7 +37,7 @@ is_started a start clock time day first server journal c d s j = cc
 
 pub starts : (a : NbnsArguments) (old_text text : Option (List ℕ)) (boot start clock day_before time day : ℕ) (first server : ServerValue) (journal : Journal ℕ FileValue)
     → SteadyBegins SystemShows boot → SteadyTells SystemShows boot start clock → MachineTells day_before time day
-    → ((at : List Addr) × (line : List ℕ) × IsBegin at a.config.longest (second_at (record { moment = start; time = time }) (start + milliseconds a.config.longest)) line × Appends old_text text line)
+    → ((at : List Addr) × (line : List ℕ) × IsBegin at (manner_at_first a.config.longest (record { moment = start; time = time })) line × Appends old_text text line)
     → ServerStarts a.config start first → server ≡ limited (Some a.rows_per_client) first → journal ≡ new_journal a (record { moment = start; time = time }) day start
     → Starts a old_text text (record { at = start; clock = clock; server = server; journal = journal })
 starts a old_text text boot start clock day_before time day first server journal begun told time_told line first_is server_is journal_is = record {

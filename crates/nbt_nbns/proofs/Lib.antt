@@ -6,3 +6,8 @@ mod Beginning
 mod Looking
 -- what waits behind what was written of a log
 mod Outgoing
+-- what a watcher is shown after a turn, and what came of a turn of a server that keeps its leases
+mod Telling
+mod Stayed
+-- a server that keeps its leases begins, over this machine
+mod Started

@@ -1,2 +1,5 @@
 -- What only the contracts of private functions cite: a caller needs none of it.
 pub mod Starting
+pub mod Ending
+pub mod Standing
+pub mod Resuming

@@ -3,7 +3,7 @@ use Rattle.std.specs.Prelude.{◌≡◌, ℕ, ◌-◌, List, Option, Some, None}
 use Rattle.nbt_server.specs.Serving.{ServerValue}
 use Rattle.nbt_log.specs.Dates.{followed}
 use Rattle.nbt_log.specs.declared.dates.Dates.{Dates}
-use Rattle.nbt_report.specs.Tallies.{counted}
+use Rattle.nbt_log.specs.Tallies.{counted}
 use Rattle.nbt_nbns.specs.Keeping.{KeeperValue, Keeps}
 use Rattle.nbt_nbns.specs.Logging.{LoggerValue, Prints}
 use Rattle.nbt_nbns.specs.Reports.{Lists, SaysStats}

@@ -10,3 +10,8 @@ pub mod Places
 pub mod Reports
 pub mod Running
 pub mod Watching
+pub mod Teller
+pub mod Staying
+pub mod Folders
+pub mod Opening
+pub mod Servers

@@ -3,10 +3,10 @@ use Rattle.std.specs.Prelude.{◌≡◌, ℕ, ◌-◌, List}
 use Rattle.nbt_log.specs.Dates.{second_at}
 use Rattle.nbt_log.specs.Leases.{IsList}
 use Rattle.nbt_log.specs.declared.dates.Dates.{Dates}
-use Rattle.nbt_report.specs.Gauges.{gauges_of}
-use Rattle.nbt_report.specs.Hosts.{IsHosts}
-use Rattle.nbt_report.specs.Stats.{stats_text}
-use Rattle.nbt_report.specs.declared.stats.Figures.{Figures}
+use Rattle.nbt_log.specs.Gauges.{gauges_of}
+use Rattle.nbt_log.specs.Hosts.{IsHosts}
+use Rattle.nbt_log.specs.Stats.{stats_text}
+use Rattle.nbt_log.specs.declared.stats.Figures.{Figures}
 use Rattle.nbt_server.specs.Serving.{ServerValue}
 use Rattle.nbt_nbns.specs.declared.report.Listing.{Listing}
 use Rattle.nbt_nbns.specs.declared.report.Listing.TheVariants.{Leases, Hosts}

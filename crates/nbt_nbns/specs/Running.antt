@@ -12,13 +12,12 @@ use Rattle.nbt_port.specs.Udp.{PortsValue, PortsDo}
 use Rattle.nbt_port.specs.Until.{until_of}
 use Rattle.nbt_log.specs.Dates.{second_at}
 use Rattle.nbt_log.specs.declared.dates.Dates.{Dates}
-use Rattle.nbt_port.specs.Until.{until_of}
 use Rattle.nbt_front.specs.Deciding.{desk_of}
 use Rattle.nbt_front.specs.FrontPort.{Fronted, FrontDoes}
-use Rattle.nbt_report.specs.Tallies.{no_tally}
-use Rattle.nbt_report.specs.declared.origin.Origin.{Origin}
+use Rattle.nbt_log.specs.Tallies.{no_tally}
+use Rattle.nbt_log.specs.declared.origin.Origin.{Origin}
 use Rattle.nbt_serve.specs.SambaPort.{HandsOn}
-use Rattle.nbt_nbns.specs.Begin.{IsBegin}
+use Rattle.nbt_nbns.specs.Begin.{IsBegin, manner_at_first}
 use Rattle.nbt_nbns.specs.Journaling.{Journals}
 use Rattle.nbt_nbns.specs.Keeping.{KeeperValue, new_keeper}
 use Rattle.nbt_nbns.specs.Logging.{LoggerValue, new_logger}
@@ -26,7 +25,7 @@ use Rattle.nbt_nbns.specs.Places.{FileValue, file_of, Stays}
 use Rattle.nbt_nbns.specs.Watching.{Watching, WatchesUntil, WatchFails}
 use Rattle.nbt_nbns.specs.declared.content.Content.{Content}
 use Rattle.nbt_nbns.specs.declared.content.Content.TheVariants as content
-use Rattle.nbt_nbns.specs.declared.running.NbnsArguments.{NbnsArguments}
+use Rattle.nbt_nbns.specs.declared.arguments.NbnsArguments.{NbnsArguments}
 use Rattle.nbt_nbns.specs.declared.journal.Journal.{Journal}
 
 -- the port beneath the front: over UDP, or over one on which Samba's registrations come as registrations
@@ -90,7 +89,7 @@ pub record Begins (a : NbnsArguments) (goes : (start : ℕ) → Nbns → Nbns �
   pub begins : SteadyBegins SystemShows boot
   pub start_told : SteadyTells SystemShows boot start start
   pub time_told : MachineTells day time time
-  pub is_first : IsBegin at a.config.longest (second_at (record { moment = start; time = time }) (start + milliseconds a.config.longest)) line
+  pub is_first : IsBegin at (manner_at_first a.config.longest (record { moment = start; time = time })) line
   pub printed : Appends old_text begun_text line
   pub starts : ServerStarts a.config start first
   pub goes_on : goes start

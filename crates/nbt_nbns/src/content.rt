@@ -3,8 +3,7 @@
 ghost use Rattle.std.specs.Prelude.{◌≡◌};
 ghost use Rattle.nbt_nbns.specs.Contents.{head_of};
 
-use nbt_log::LIST_HEAD;
-use nbt_report::{HOSTS_HEAD, STATS_HEAD};
+use nbt_log::{HOSTS_HEAD, LIST_HEAD, STATS_HEAD};
 
 /// What a kept file has.
 #[derive(Clone, Copy, Debug, PartialEq, Eq)]

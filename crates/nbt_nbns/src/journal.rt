@@ -10,9 +10,8 @@ use crate::place::Place;
 use crate::report::{Listing, Report, StatsReport};
 use crate::staying::{Shown, Watcher};
 use nbt_lease::Moment;
-use nbt_log::Dates;
+use nbt_log::{Dates, Origin, Tally};
 use nbt_port::Clock;
-use nbt_report::{Origin, Tally};
 use nbt_server::Server;
 use std::io::Write;
 

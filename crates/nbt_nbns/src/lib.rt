@@ -1,27 +1,40 @@
-//! A name server that stays up: it logs what it made of each datagram, and keeps the list of its live leases, its hosts and its
-//! statistics in files (our profile).
+//! A name server that stays up, over UDP, the system's clocks and its files: it logs what it made of each datagram, keeps the list of its
+//! live leases, its hosts and its statistics in files, and keeps its leases over a restart in a folder, where it has one (our profile).
 #![tactic(auto)]
 
-mod begin;
+mod arguments;
 mod complaint;
 mod content;
+mod first_line;
+mod folder;
+mod in_the_way;
 mod journal;
 mod keeper;
+mod keeping;
 pub mod laws;
 mod limits;
 mod logger;
+mod opening;
 mod outbox;
 mod place;
 mod report;
+mod resuming;
 mod running;
+mod server;
 mod standing;
 mod starting;
 mod staying;
+mod teller;
 
-pub use begin::{write_addresses, write_begin};
+pub use arguments::{NbnsArguments, ServerArguments, StateFolder};
 pub use content::Content;
+pub use first_line::{
+    Manner, manner_at_first, manner_of, write_addresses, write_begin, write_reason,
+};
+pub use folder::FolderStore;
 pub use journal::Journal;
 pub use keeper::{Keeper, Kept};
+pub use keeping::keep_on;
 pub use limits::{
     HOLDS_LEAST, Judged, LIVES_LEAST, LONGEST_QUIET, judge, write_refusal, write_warning,
 };
@@ -29,6 +42,8 @@ pub use logger::Logger;
 pub use outbox::Outbox;
 pub use place::{FilePlace, MemoryPlace, Place};
 pub use report::{Listing, Report, StatsReport};
-pub use running::{NbnsArguments, run_nbns};
+pub use running::run_nbns;
+pub use server::run_server;
 pub use starting::journal_of;
 pub use staying::{Shown, Watcher, watch_on};
+pub use teller::{Teller, Untold};

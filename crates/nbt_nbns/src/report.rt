@@ -8,9 +8,10 @@ ghost use Rattle.nbt_server.specs.Serving.{ServerValue};
 ghost use Rattle.nbt_nbns.specs.Reports.{figures_of};
 
 use nbt_lease::{Lease, Moment};
-use nbt_log::{Dates, write_list};
+use nbt_log::{
+    Dates, Figures, Health, Origin, Tally, measure, write_hosts, write_list, write_stats,
+};
 use nbt_name::Name;
-use nbt_report::{Figures, Health, Origin, Tally, measure, write_hosts, write_stats};
 use nbt_server::Server;
 use std::alloc::{AllocError, Global};
 

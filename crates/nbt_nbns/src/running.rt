@@ -8,44 +8,18 @@ ghost use Rattle.nbt_nbns.specs.Watching.{WatchesUntil, WatchFails};
 ghost use Rattle.nbt_nbns.specs.Inner.Starting.{watching_of};
 ghost use Rattle.nbt_nbns.specs.declared.starting.Started.{Started as Begun};
 
+use crate::arguments::NbnsArguments;
 use crate::starting::{Started, start};
 use crate::staying::{Watcher, watch_on};
-use nbt_front::{Desk, Front, FrontPort};
-use nbt_lease::{Config, Moment};
-use nbt_port::{Bind, Clock, Fault, MachineClock, Port, UdpPorts, tell_end_of, until_of};
+use nbt_front::{Desk, FrontPort};
+use nbt_lease::Moment;
+use nbt_port::{Clock, Fault, MachineClock, Port, UdpPorts, tell_end_of, until_of};
 use nbt_serve::SambaPort;
 use std::alloc::Global;
 use std::io::Write;
 use std::net::Net;
 use std::rt::Files;
 use std::time;
-
-/// What a name server is to do.
-#[derive(Drop)]
-pub struct NbnsArguments {
-    /// Its own addresses and ports.
-    pub bind: Bind,
-    /// The limits.
-    pub config: Config,
-    /// After how many milliseconds it ends; `None` where it has no end.
-    pub time: Option<u64>,
-    /// Whether it logs what it makes of each datagram.
-    pub log: bool,
-    /// Whether the log has the broadcasts of B nodes too.
-    pub broadcasts: bool,
-    /// The path of the file that has the list of its live leases, if there is to be one.
-    pub leases: Option<String>,
-    /// The path of the file that has its hosts, if there is to be one.
-    pub hosts: Option<String>,
-    /// The path of the file that has its statistics, if there is to be one.
-    pub stats: Option<String>,
-    /// Whether registrations that Samba's programs send are left as they are.
-    pub strict: bool,
-    /// How many live leases a client may have.
-    pub rows_per_client: u32,
-    /// Who may register, and the names that are fixed.
-    pub front: Front,
-}
 
 /// Runs a name server on UDP ports of this system, over the monotonic clock. It first prints where it serves, for how long it is silent
 /// and until when, and then stays up for 2^61 turns or until its time is over, also where the port fails, as [`watch_on`] does. It logs
@@ -102,7 +76,6 @@ fn watch_over<
     writer: &mut W,
     errors: &mut E,
 ) -> Result<(), Fault>
-    requires failure_count { port.failures ≤ 2 ^ 61 }
     ensures ok { OnOk result ((last_port : Fronted PortsValue) × (last : Begun C V) × WatchesUntil (PortDoes strict) PortFailures C.tells V.sees until
         (watching_of (record { port = port.entry; desk = desk.entry }) started (W.contents writer.old)) (watching_of last_port last (W.contents writer.new))) }
     ensures err { OnErr result ((last_port : Fronted PortsValue) × (last : Begun C V) × WatchFails (PortDoes strict) PortFailures C.tells V.sees until
@@ -128,7 +101,6 @@ fn watch_to_its_end<P: Port + Drop, C: Clock, V: Watcher, M: time::Clock, W: Wri
     writer: &mut W,
     errors: &mut E,
 ) -> Result<(), Fault>
-    requires failure_count { P.failures port ≤ 2 ^ 61 }
     ensures ok { OnOk result ((last : P) × WatchesUntil P.does P.failures C.tells V.sees until
         (watching_of port started.old (W.contents writer.old)) (watching_of last started.new (W.contents writer.new))) }
     ensures err { OnErr result ((last : P) × WatchFails P.does P.failures C.tells V.sees until

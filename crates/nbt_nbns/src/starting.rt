@@ -1,28 +1,25 @@
 //! How a name server begins, over a machine: its clocks, its files, and its first line.
 
-ghost use Rattle.std.specs.Prelude.{◌≡◌, ◌+◌, ◌⊎◌, ℕ, List, OnOk, IfOk, IfErr};
+ghost use Rattle.std.specs.Prelude.{◌≡◌, ◌⊎◌, ℕ, List, OnOk, IfOk, IfErr};
 ghost use Rattle.std.specs.Io.KnownBytes.{Appends};
 ghost use Rattle.nbt_name.specs.declared.addr.Addr.{Addr};
-ghost use Rattle.nbt_lease.specs.Config.{milliseconds};
-ghost use Rattle.nbt_log.specs.Dates.{second_at};
-ghost use Rattle.nbt_nbns.specs.Begin.{IsBegin};
+ghost use Rattle.nbt_nbns.specs.Begin.{IsBegin, manner_at_first};
 ghost use Rattle.nbt_nbns.specs.Running.{log_of, keeper_of, origin_of, new_journal};
 ghost use Rattle.nbt_nbns.specs.Inner.Starting.{Starts, StartsNot};
 
-use crate::begin::write_begin;
+use crate::arguments::NbnsArguments;
 use crate::complaint::complain;
 use crate::content::Content;
+use crate::first_line::{Manner, manner_at_first, write_begin};
 use crate::journal::Journal;
 use crate::keeper::Keeper;
 use crate::logger::Logger;
 use crate::place::FilePlace;
-use crate::running::NbnsArguments;
 use nbt_lease::{Config, Moment};
-use nbt_log::Dates;
+use nbt_log::{Dates, Origin, Tally};
 use nbt_port::{
     Clock, Fault, MachineClock, SteadyClock, UdpPorts, print, readable_clock, steady_clock,
 };
-use nbt_report::{Origin, Tally};
 use nbt_server::Server;
 use std::alloc::Global;
 use std::io::Write;
@@ -96,34 +93,30 @@ fn tell_begin<'a, M: Net + time::Clock + Files, W: Write, E: Write>(
     errors: &mut E,
 ) -> Result<MachineJournal<'a, M>, Fault>
     ensures journal { IfOk result (λ journal. journal ≡ new_journal arguments.now dates day.entry start) }
-    ensures line { OnOk result ((at : List Addr) × (line : List ℕ) × IsBegin at arguments.now.config.longest (second_at dates (dates.moment + milliseconds arguments.now.config.longest)) line
-        × Appends (W.contents writer.old) (W.contents writer.new) line) }
+    ensures line { OnOk result ((at : List Addr) × (line : List ℕ) × IsBegin at (manner_at_first arguments.now.config.longest dates) line × Appends (W.contents writer.old) (W.contents writer.new) line) }
     ensures err { IfErr result (StartsNot (W.contents writer.old) (W.contents writer.new)) }
 {
     let journal = journal_of(machine, alloc, arguments, dates, day, start, errors)?;
-    print_begin(alloc, port, &dates, arguments.config, writer, errors)?;
+    let manner = manner_at_first(arguments.config.longest(), &dates);
+    print_begin(alloc, port, manner, writer, errors)?;
     Ok(journal)
 }
 
-/// Prints where a server serves that starts now, for how long it is silent, and until when, and flushes. Refused: `Memory`, and
-/// then nothing is printed; `Output` where the line can't be written, and a line in `errors` says why.
-fn print_begin<M: Net + time::Clock + Files, W: Write, E: Write>(
+/// Prints where a server serves, and how it begins, and flushes. Refused: `Memory`, and then nothing is printed; `Output` where the
+/// line can't be written, and a line in `errors` says why.
+pub(crate) fn print_begin<M: Net + time::Clock + Files, W: Write, E: Write>(
     alloc: Global,
     port: &UdpPorts<'_, M>,
-    dates: &Dates,
-    config: Config,
+    manner: Manner,
     writer: &mut W,
     errors: &mut E,
 ) -> Result<(), Fault>
-    ensures ok { OnOk result ((at : List Addr) × (line : List ℕ) × IsBegin at config.longest (second_at dates.now (dates.now.moment + milliseconds config.longest)) line
-        × Appends (W.contents writer.old) (W.contents writer.new) line) }
+    ensures ok { OnOk result ((at : List Addr) × (line : List ℕ) × IsBegin at manner line × Appends (W.contents writer.old) (W.contents writer.new) line) }
     ensures err { IfErr result (λ fault. (fault ≡ Fault.Output) ⊎ ((fault ≡ Fault.Memory) × (W.contents writer.new ≡ W.contents writer.old))) }
 {
     let at = port.addresses()?;
-    let silent = config.longest();
-    let until = dates.second_at(dates.moment.get() + 1000 * u64::from(silent));
     let mut line = String::new(alloc);
-    write_begin(at.as_slice(), silent, until, &mut line)?;
+    write_begin(at.as_slice(), manner, &mut line)?;
     match print(line.as_str(), writer) {
         Ok(()) => Ok(()),
         Err(error) => {

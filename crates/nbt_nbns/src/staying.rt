@@ -2,7 +2,6 @@
 
 ghost use Rattle.std.specs.Prelude.{ℕ, List, Option, ◌<◌, ◌≤◌, ◌^◌, IfOk, IfErr, OnOk, OnErr};
 ghost use Rattle.nbt_server.specs.Serving.{ServerValue};
-ghost use Rattle.nbt_port.specs.PortCalls.{CountsFailure};
 ghost use Rattle.nbt_serve.specs.Serving.{Breaks};
 ghost use Rattle.nbt_nbns.specs.declared.staying.Shown.{Shown};
 ghost use Rattle.nbt_port.specs.Numbers.{forever};
@@ -11,9 +10,8 @@ ghost use Rattle.nbt_nbns.specs.Watching.{ShowsTurn, WatchesOn, WatchesLast, Bre
 
 use arrayvec::ArrayVec;
 use nbt_lease::Moment;
-use nbt_log::Entry;
+use nbt_log::{Entry, Health};
 use nbt_port::{Clock, Device, FOREVER, Fault, Port, Turn, Turned, is_over, stay_up};
-use nbt_report::Health;
 use nbt_serve::serve_turn;
 use nbt_server::Server;
 use std::io::Write;
@@ -62,7 +60,6 @@ pub fn watch_on<P: Port, C: Clock, V: Watcher, M: time::Clock, W: Write, E: Writ
     writer: &mut W,
     errors: &mut E,
 ) -> Result<(), Fault>
-    requires failure_count { P.failures port.old ≤ 2 ^ 61 }
     ensures ok { OnOk result (StaysUntil (WatchesOn P.does P.failures C.tells V.sees until) (BreaksWatching P.does C.tells) (WatchesLast P.does P.failures C.tells V.sees until) forever
         (record { port = port.old; clock = clock.old; server = server.old; watcher = watcher.old; text = W.contents writer.old })
         (record { port = port.new; clock = clock.new; server = server.new; watcher = watcher.new; text = W.contents writer.new })) }
@@ -110,8 +107,6 @@ impl<P: Port, C: Clock, V: Watcher, W: Write> Turn for WatchedTurn<'_, '_, '_, '
 
     ghost fixed = { λ t. (t.until, t.port.ghost_name ∷ t.clock.ghost_name ∷ t.server.ghost_name ∷ t.watcher.ghost_name ∷ t.writer.ghost_name ∷ []) };
 
-    ghost failures = { λ t. P.failures t.port.now };
-
     ghost turns = { λ f. WatchesOn P.does P.failures C.tells V.sees f.0 };
 
     ghost breaks = { λ _. BreaksWatching P.does C.tells };
@@ -151,10 +146,8 @@ fn turn_and_moment<P: Port, C: Clock>(
     octets: &mut ArrayVec<u8, 2048>,
     reply: &mut ArrayVec<u8, 576>,
 ) -> Result<Shown, Device>
-    requires failure_count { P.failures port.old < 2 ^ 62 }
     ensures ok { IfOk result (λ shown. ShowsTurn P.does P.failures C.tells port.old clock.old server.old shown port.new clock.new server.new) }
     ensures err { OnErr result (Breaks P.does C.tells 1 port.old clock.old server.old port.new clock.new server.new) }
-    ensures device { CountsFailure (P.failures port.old) (P.failures port.new) result }
 {
     let turned = serve_turn(port, clock, server, octets, reply)?;
     let health = Health {

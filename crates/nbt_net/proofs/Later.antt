@@ -6,7 +6,7 @@ use Rattle.nbt_lease.specs.Lease.{Rows, is_live, leases_at, AreApart, HasNone}
 use Rattle.nbt_lease.proofs.Common.{filter, cases_Bool, AllByRecursion, NameValue, same_name}
 use Rattle.nbt_lease.proofs.Rows.{row_lives, row_of_other, row_over, none_live}
 use Rattle.nbt_server.specs.Shifted.{shifted_lease}
-use Rattle.nbt_resume.specs.Resuming.{later_row, later_rows}
+use Rattle.nbt_store.specs.Resuming.{later_row, later_rows}
 
 -- the last number of 64 bits
 abbrev pub most : ℕ

@@ -23,15 +23,15 @@ use Rattle.nbt_store.specs.declared.silence.Seen.{Seen}
 use Rattle.nbt_store.specs.declared.times.Times.{Times}
 use Rattle.nbt_serve.specs.Serving.{Turn, Turns, passes, takes, goes_back, has_no_memory}
 use Rattle.nbt_port.specs.Memory.{DatagramValue}
-use Rattle.nbt_keep.specs.Changing.{IsKept}
-use Rattle.nbt_keep.specs.Runs.{CrashLeavesAnEarlierServer, IsEarlier, gone_in, last_left, turns_in}
-use Rattle.nbt_resume.specs.Beginning.{IsBegun, GoesOn}
-use Rattle.nbt_resume.specs.Resuming.{GoesOnWith, ResumesAs, ResumesOn, later_rows, goes_on, too_many, too_old, none_that_stand, not_now, by_clock, nothing_kept, no_file, with_file}
-use Rattle.nbt_resume.specs.declared.beginning.Begun.{Begun}
-use Rattle.nbt_resume.specs.declared.resuming.Decided.{Decided}
-use Rattle.nbt_resume.specs.declared.resuming.Decided.TheVariants.{Goes, Silent}
-use Rattle.nbt_resume.specs.declared.resuming.Found.{Found}
-use Rattle.nbt_resume.specs.declared.resuming.Going.{Going}
+use Rattle.nbt_serve.specs.Changing.{IsKept}
+use Rattle.nbt_serve.specs.Runs.{CrashLeavesAnEarlierServer, IsEarlier, gone_in, last_left, turns_in}
+use Rattle.nbt_store.specs.Beginning.{IsBegun, GoesOn}
+use Rattle.nbt_store.specs.Resuming.{GoesOnWith, ResumesAs, ResumesOn, later_rows, goes_on, too_many, too_old, none_that_stand, not_now, by_clock, nothing_kept, no_file, with_file}
+use Rattle.nbt_store.specs.declared.beginning.Begun.{Begun}
+use Rattle.nbt_store.specs.declared.resuming.Decided.{Decided}
+use Rattle.nbt_store.specs.declared.resuming.Decided.TheVariants.{Goes, Silent}
+use Rattle.nbt_store.specs.declared.resuming.Found.{Found}
+use Rattle.nbt_store.specs.declared.resuming.Going.{Going}
 use Rattle.nbt_net.specs.Starts.{FindsLeft, HasNotGoneBack, ResumesLater, StartResumesAnEarlierServer}
 use Rattle.nbt_net.proofs.Later.{apart_later, later_lease, live_later, none_capped, rows_capped}
 use Rattle.nbt_net.proofs.Onwards.{is_clock, times_last}

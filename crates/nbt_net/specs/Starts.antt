@@ -13,11 +13,11 @@ use Rattle.nbt_store.specs.Times.{first_times, times_after_all}
 use Rattle.nbt_store.specs.declared.change.Change.{Change}
 use Rattle.nbt_store.specs.declared.form.Form.TheVariants.{Three}
 use Rattle.nbt_store.specs.declared.header.Header.{Header}
-use Rattle.nbt_keep.specs.Devices.{DeviceCall}
-use Rattle.nbt_keep.specs.Runs.{Begins, Held, IsEarlier, Runs, Seen, calls_in, gone_in, last_left, stored_in, turns_in}
-use Rattle.nbt_resume.specs.Beginning.{BeginsAs}
-use Rattle.nbt_resume.specs.declared.beginning.Begun.{Begun}
-use Rattle.nbt_resume.specs.declared.resuming.Found.{Found}
+use Rattle.nbt_serve.specs.Devices.{DeviceCall}
+use Rattle.nbt_serve.specs.Runs.{Begins, Held, IsEarlier, Runs, Seen, calls_in, gone_in, last_left, stored_in, turns_in}
+use Rattle.nbt_store.specs.Beginning.{BeginsAs}
+use Rattle.nbt_store.specs.declared.beginning.Begun.{Begun}
+use Rattle.nbt_store.specs.declared.resuming.Found.{Found}
 
 -- What a start finds are octets that a crash left: a file of these changes, whose header has this last time, and the start of the server
 -- that ran. It has the limits of that server.

@@ -28,8 +28,8 @@ pub fn a_start_resumes_an_earlier_server()
     ensures event { (shift : ℕ) (was server : ServerValue) (now : ℕ) (ends : Ends) → ServerResumes (shifted_server shift was) now server → ends.server ≡ None → ends.crashed ≡ Some was
         → Resumes now (shifted_server_end shift ends) (with_server (shifted_server_end shift ends) (Some server) None) }
 {
-    nbt_keep::laws::a_crash_leaves_an_earlier_server();
-    nbt_keep::laws::what_is_kept_resumes();
+    nbt_serve::laws::a_crash_leaves_an_earlier_server();
+    nbt_serve::laws::what_is_kept_resumes();
     nbt_store::laws::a_file_has_one_reading();
     nbt_store::laws::a_new_clock_begins_at_the_last_time();
     nbt_server::laws::a_shifted_server_does_the_same();

@@ -5,7 +5,6 @@ pub mod Memory
 pub mod Numbers
 pub mod OwnAddresses
 pub mod PortCalls
-pub mod Routes
 pub mod Staying
 pub mod Udp
 pub mod Until

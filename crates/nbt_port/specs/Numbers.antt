@@ -1,5 +1,5 @@
 -- The numbers of ports, and of servers and hosts that stay up (our profile).
-use Rattle.std.specs.Prelude.{ℕ, ◌^◌}
+use Rattle.std.specs.Prelude.{ℕ, ◌-◌, ◌^◌}
 
 -- a port hands out so many octets of a datagram at most
 abbrev pub octets_most : ℕ
@@ -13,13 +13,13 @@ receive_wait = 100
 abbrev pub failures_most : ℕ
 failures_most = 100
 
+-- a count of calls that failed goes so far at most
+abbrev pub count_most : ℕ
+count_most = 2 ^ 64 - 1
+
 -- an end takes so many turns where it has no end: more than any system lives to see
 abbrev pub forever : ℕ
 forever = 2 ^ 61
-
--- a port over several sockets knows so many routes of replies at most
-abbrev pub routes_most : ℕ
-routes_most = 65
 
 -- so many milliseconds after the last look a port looks for the machine's addresses again
 abbrev pub look_wait : ℕ

@@ -4,19 +4,18 @@ ghost use Rattle.std.specs.Prelude.{◌≡◌, ℕ, [], ◌∷◌, ◌++◌, Non
 ghost use Rattle.nbt_port.specs.Memory.{IsToFail, one_later, HandsOut, values_of, to as datagram_to};
 
 use crate::clock::Clock;
-use crate::port::{Device, MOST, Port};
+use crate::port::{Device, MOST, Port, Route, one_more};
 use arrayvec::ArrayVec;
 use nbt_lease::Moment;
-use nbt_name::Addr;
 use std::alloc::{AllocError, Global};
 use std::collections::VecDeque;
 use std::marker::Model;
 
-/// A datagram: its sender or its destination, and its octets.
+/// A datagram: its route, and its octets.
 #[derive(Debug, Drop)]
 pub struct Datagram {
-    /// Its sender, or its destination.
-    pub addr: Addr,
+    /// By which it came, or leaves.
+    pub route: Route,
     /// Its octets.
     pub octets: Vec<u8>,
 }
@@ -78,23 +77,23 @@ impl Port for MemoryPort {
 
     ghost failures = { λ p. p.failures };
 
-    fn receive(&mut self, octets: &mut ArrayVec<u8, 2048>) -> Result<Option<Addr>, Device> {
+    fn receive(&mut self, octets: &mut ArrayVec<u8, 2048>) -> Result<Option<Route>, Device> {
         if is_to_fail(&mut self.fails_after) {
-            self.failures += 1;
+            self.failures = one_more(self.failures);
             return Err(Device);
         }
         Ok(hand_out(&mut self.incoming, octets))
     }
 
-    fn send(&mut self, to: Addr, octets: &[u8]) -> Result<(), Device> {
+    fn send(&mut self, to: Route, octets: &[u8]) -> Result<(), Device> {
         if is_to_fail(&mut self.fails_after) {
-            self.failures += 1;
+            self.failures = one_more(self.failures);
             return Err(Device);
         }
         match keep(self.alloc, &mut self.sent, to, octets) {
             Ok(()) => Ok(()),
             Err(_) => {
-                self.failures += 1;
+                self.failures = one_more(self.failures);
                 Err(Device)
             }
         }
@@ -126,7 +125,7 @@ fn is_to_fail(fails_after: &mut Option<u64>) -> bool
 fn hand_out(
     incoming: &mut VecDeque<Option<Datagram>>,
     octets: &mut ArrayVec<u8, 2048>,
-) -> Option<Addr>
+) -> Option<Route>
     ensures { HandsOut incoming.old.items result octets.new.items incoming.new.items }
 {
     octets.clear();
@@ -136,16 +135,16 @@ fn hand_out(
     let datagram = front?;
     let most = datagram.octets.len().min(MOST);
     let _ = octets.try_extend_from_slice(&datagram.octets[..most]);
-    Some(datagram.addr)
+    Some(datagram.route)
 }
 
 /// Keeps what is sent, after all that was sent before.
-fn keep(alloc: Global, sent: &mut Vec<Datagram>, to: Addr, octets: &[u8]) -> Result<(), AllocError>
+fn keep(alloc: Global, sent: &mut Vec<Datagram>, to: Route, octets: &[u8]) -> Result<(), AllocError>
     ensures ok { OnOk result (values_of sent.new.items ≡ values_of sent.old.items ++ datagram_to to octets.now ∷ []) }
     ensures err { OnErr result (values_of sent.new.items ≡ values_of sent.old.items) }
 {
     let octets = Vec::from_slice(alloc, octets)?;
-    sent.push(Datagram { addr: to, octets })?;
+    sent.push(Datagram { route: to, octets })?;
     Ok(())
 }
 

@@ -1,6 +1,6 @@
 //! How a server or a host stays up when its port fails.
 
-ghost use Rattle.std.specs.Prelude.{◌≡◌, ℕ, ◌+◌, ◌<◌, ◌≤◌, ◌^◌, OnOk, OnErr, IfErr};
+ghost use Rattle.std.specs.Prelude.{◌≡◌, ◌+◌, ◌<◌, OnOk, OnErr, IfErr};
 ghost use Rattle.nbt_port.specs.declared.fault.Fault.{Fault};
 ghost use Rattle.nbt_port.specs.Numbers.{failures_most};
 ghost use Rattle.nbt_port.specs.Staying.{StaysUntil, EndsEarly, Takes};
@@ -92,9 +92,6 @@ pub trait Turn {
 
     ghost fixed: { Self → Fixed };
 
-    /// How many calls of its port have failed.
-    ghost failures: { Self → ℕ };
-
     /// A turn that goes well.
     ghost turns: { Fixed → State → Shown → State → Type 0 };
 
@@ -109,10 +106,8 @@ pub trait Turn {
 
     /// Takes a turn. What can't be done about it is said in `errors`.
     fn take<E: Write>(&mut self, errors: &mut E) -> Turned
-        requires failure_count { failures self.old < 2 ^ 62 }
         ensures takes { Takes (turns (fixed self.old)) (breaks (fixed self.old)) (last (fixed self.old)) (cuts (fixed self.old)) result (state self.old) (state self.new) }
-        ensures fixed { fixed self.new ≡ fixed self.old }
-        ensures count { failures self.new ≤ failures self.old + 1 };
+        ensures fixed { fixed self.new ≡ fixed self.old };
 }
 
 /// Takes `turns` turns, or as many as it takes until one is the last, and stays up when the port fails. After a turn that failed it
@@ -125,11 +120,9 @@ pub fn stay_up<T: Turn, M: time::Clock, E: Write>(
     machine: &M,
     errors: &mut E,
 ) -> Result<(), Fault>
-    requires failure_count { T.failures turn.old + turns ≤ 2 ^ 62 }
     ensures ok { OnOk result (StaysUntil (T.turns (T.fixed turn.old)) (T.breaks (T.fixed turn.old)) (T.last (T.fixed turn.old)) turns (T.state turn.old) (T.state turn.new)) }
     ensures err { IfErr result (λ fault. EndsEarly (T.turns (T.fixed turn.old)) (T.breaks (T.fixed turn.old)) (T.cuts (T.fixed turn.old)) turns fault (T.state turn.old) (T.state turn.new)) }
     ensures fixed { T.fixed turn.new ≡ T.fixed turn.old }
-    ensures count { T.failures turn.new ≤ T.failures turn.old + turns }
 {
     let mut row = Row::new();
     for _ in 0..turns {

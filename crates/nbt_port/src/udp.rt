@@ -1,13 +1,13 @@
 //! A port over UDP.
 
-ghost use Rattle.std.specs.Prelude.{◌≡◌, ◌≤◌, ◌<◌, ◌^◌, ◌↔◌, [], None, Ok, IfOk, IsTrue};
+ghost use Rattle.std.specs.Prelude.{◌≡◌, ◌≤◌, ◌↔◌, [], None, Ok, IfOk, IsTrue};
 ghost use Rattle.std.specs.IoError.{error_kind};
 ghost use Rattle.nbt_port.specs.Numbers.{octets_most};
 ghost use Rattle.nbt_port.specs.PortCalls.{receiving, CountsFailure};
 ghost use Rattle.nbt_port.specs.Inner.Sockets.{IsNothing, HasNoWay, Received, Sent};
 
 use crate::cause::{Cause, MachineCall};
-use crate::port::{Device, MOST, Port};
+use crate::port::{Device, MOST, Port, Route, one_more};
 use arrayvec::ArrayVec;
 use nbt_name::Addr;
 use std::io;
@@ -103,17 +103,16 @@ impl UdpPort {
         &mut self,
         waits: bool,
         octets: &mut ArrayVec<u8, 2048>,
-    ) -> Result<Option<Addr>, Device>
-        requires failure_count { self.old.failures < 2 ^ 62 }
+    ) -> Result<Option<Route>, Device>
         ensures does { UdpDoes self.old (receiving result octets.new.items) self.new }
         ensures count { CountsFailure self.old.failures self.new.failures result }
         ensures empty { result ≡ Ok None → octets.new.items ≡ [] }
     {
         let answer = self.answer_to(waits);
         let error = answer.err();
-        let received = received(answer, &self.buffer, octets);
+        let received = received(answer, None, &self.buffer, octets);
         if received.is_err() {
-            self.failures += 1;
+            self.failures = one_more(self.failures);
             self.cause = self.cause_of(MachineCall::Receive, error);
         }
         received
@@ -163,8 +162,7 @@ impl Port for UdpPort {
 
     ghost failures = { λ p. p.failures };
 
-    fn receive(&mut self, octets: &mut ArrayVec<u8, 2048>) -> Result<Option<Addr>, Device>
-        requires failure_count { self.old.failures < 2 ^ 62 }
+    fn receive(&mut self, octets: &mut ArrayVec<u8, 2048>) -> Result<Option<Route>, Device>
         ensures does { UdpDoes self.old (receiving result octets.new.items) self.new }
         ensures count { CountsFailure self.old.failures self.new.failures result }
         // Where nothing came, nothing is left of an earlier datagram.
@@ -174,8 +172,7 @@ impl Port for UdpPort {
     }
 
     /// Nothing has come yet where the socket says so, which then doesn't wait.
-    fn receive_now(&mut self, octets: &mut ArrayVec<u8, 2048>) -> Result<Option<Addr>, Device>
-        requires failure_count { self.old.failures < 2 ^ 62 }
+    fn receive_now(&mut self, octets: &mut ArrayVec<u8, 2048>) -> Result<Option<Route>, Device>
         ensures does { UdpDoes self.old (receiving result octets.new.items) self.new }
         ensures count { CountsFailure self.old.failures self.new.failures result }
         ensures empty { result ≡ Ok None → octets.new.items ≡ [] }
@@ -183,7 +180,8 @@ impl Port for UdpPort {
         self.receive_as(false, octets)
     }
 
-    fn send(&mut self, to: Addr, octets: &[u8]) -> Result<(), Device> {
+    fn send(&mut self, to: Route, octets: &[u8]) -> Result<(), Device> {
+        let to = to.peer;
         let answer = self.answer_to_send(to, octets);
         let why = answer.err();
         if self.watched == Some(to) {
@@ -191,7 +189,7 @@ impl Port for UdpPort {
         }
         let sent = sent(answer, self.strict);
         if sent.is_err() {
-            self.failures += 1;
+            self.failures = one_more(self.failures);
             self.cause = if self.strict {
                 lost_to(to, why)
             } else {
@@ -214,24 +212,26 @@ impl Port for UdpPort {
     }
 }
 
-/// What a receive returns, by the system's answer: the sender, with as many octets as it says; nothing, where none came in
-/// time, or the sender has no address of 32 bits; or `Device` at any other error.
+/// What a receive at this address returns, by the system's answer: the route, with as many octets as it says; nothing, where none
+/// came in time, or the sender has no address of 32 bits; or `Device` at any other error.
 pub(crate) fn received(
     answer: io::Result<(usize, SocketAddr)>,
+    local: Option<Addr>,
     buffer: &[u8; MOST],
     octets: &mut ArrayVec<u8, 2048>,
-) -> Result<Option<Addr>, Device>
+) -> Result<Option<Route>, Device>
     requires within { IfOk answer (λ a. a.0 ≤ octets_most) }
-    ensures { Received answer buffer.now result octets.new.items }
+    ensures { Received answer local buffer.now result octets.new.items }
 {
     octets.clear();
     match answer {
         Ok((len, SocketAddr::V4(from))) => {
             let _ = octets.try_extend_from_slice(&buffer[..len]);
-            Ok(Some(Addr {
+            let peer = Addr {
                 ip: from.ip().to_bits(),
                 port: from.port(),
-            }))
+            };
+            Ok(Some(Route { peer, local }))
         }
         Ok((_, SocketAddr::V6(_))) => Ok(None),
         Err(error) if is_nothing(&error) => Ok(None),

@@ -1,6 +1,6 @@
 //! A port over UDP that has several addresses.
 
-ghost use Rattle.std.specs.Prelude.{◌≡◌, ◌<◌, ◌^◌, [], Ok, IfOk, IfErr};
+ghost use Rattle.std.specs.Prelude.{◌≡◌, [], Ok, IfOk, IfErr};
 ghost use Rattle.nbt_port.specs.Faults.{IsNotBound};
 ghost use Rattle.nbt_port.specs.PortCalls.{receiving, CountsFailure};
 
@@ -9,8 +9,7 @@ use crate::binding::not_bound;
 use crate::cause::{Cause, MachineCall};
 use crate::fault::Fault;
 use crate::machine_addresses::{LIST, read_own};
-use crate::port::{Device, MOST, Port};
-use crate::routes::{Route, Routes};
+use crate::port::{Device, MOST, Port, Route, one_more};
 use crate::sockets::Sockets;
 use crate::udp::{RECEIVE_WAIT, received, sent};
 use arrayvec::ArrayVec;
@@ -48,10 +47,9 @@ struct Following {
 }
 
 /// A port over UDP (RFC 768) that has several addresses, each by a socket of its own. A receive waits 100 ms at most for a datagram
-/// at any of them, and takes them in turn. A reply leaves from the address at which its datagram came: where a receive waits, no
-/// reply to an earlier datagram may follow, and replies leave in the order of their datagrams. Every other datagram leaves from the
-/// first address. Where it has every address of the machine, a receive looks at most once a second which these are. A contract sees
-/// which addresses it was told to have, and how many calls have failed.
+/// at any of them, and takes them in turn. A datagram leaves from the address that its route names, or from the first; it is lost
+/// where the port has that address no more. Where it has every address of the machine, a receive looks at most once a second which
+/// these are. A contract sees which addresses it was told to have, and how many calls have failed.
 #[derive(Drop)]
 pub struct UdpPorts<'a, M> {
     machine: &'a M,
@@ -59,7 +57,6 @@ pub struct UdpPorts<'a, M> {
     bind: &'a Bind,
     sockets: Sockets,
     buffer: [u8; MOST],
-    routes: Routes,
     following: Option<Following>,
     changes: Vec<Change>,
     failures: u64,
@@ -107,7 +104,6 @@ impl<'a, M: Net + Files + time::Clock> UdpPorts<'a, M> {
             bind,
             sockets: Sockets::new(machine, alloc)?,
             buffer: [0; MOST],
-            routes: Routes::new(alloc)?,
             following: None,
             changes: Vec::new(alloc),
             failures: 0,
@@ -284,41 +280,26 @@ impl<'a, M: Net + Files + time::Clock> UdpPorts<'a, M> {
         }
     }
 
-    /// Receives, and waits for it or not. The routes of earlier datagrams are forgotten where it waits.
+    /// Receives, and waits for it or not.
     fn receive_as(
         &mut self,
         waits: bool,
         octets: &mut ArrayVec<u8, 2048>,
-    ) -> Result<Option<Addr>, Device>
-        requires failure_count { self.old.failures < 2 ^ 62 }
+    ) -> Result<Option<Route>, Device>
         ensures does { PortsDo self.old (receiving result octets.new.items) self.new }
         ensures count { CountsFailure self.old.failures self.new.failures result }
         ensures empty { result ≡ Ok None → octets.new.items ≡ [] }
     {
         self.look();
-        let mut wait = Duration::ZERO;
-        if waits {
-            self.routes.clear();
-            wait = Duration::from_millis(RECEIVE_WAIT);
-        }
+        let wait = Duration::from_millis(if waits { RECEIVE_WAIT } else { 0 });
         let answer = self.sockets.receive(wait, &mut self.buffer);
         let error = answer.err();
-        let received = received(answer, &self.buffer, octets);
-        self.note_route(&received);
+        let received = received(answer, self.sockets.last(), &self.buffer, octets);
         if received.is_err() {
-            self.failures += 1;
+            self.failures = one_more(self.failures);
             self.cause = self.cause_of(MachineCall::Receive, self.sockets.last(), error);
         }
         received
-    }
-
-    /// Keeps at which address a datagram came, if one did.
-    fn note_route(&mut self, received: &Result<Option<Addr>, Device>)
-        ensures { self.new ≡ self.old }
-    {
-        if let (Ok(Some(from)), Some(at)) = (received, self.sockets.last()) {
-            self.routes.remember(Route { from: *from, at });
-        }
     }
 
     /// Why this call failed, at this address, if it is one.
@@ -342,8 +323,7 @@ impl<M: Net + Files + time::Clock> Port for UdpPorts<'_, M> {
 
     ghost failures = { λ p. p.failures };
 
-    fn receive(&mut self, octets: &mut ArrayVec<u8, 2048>) -> Result<Option<Addr>, Device>
-        requires failure_count { self.old.failures < 2 ^ 62 }
+    fn receive(&mut self, octets: &mut ArrayVec<u8, 2048>) -> Result<Option<Route>, Device>
         ensures does { PortsDo self.old (receiving result octets.new.items) self.new }
         ensures count { CountsFailure self.old.failures self.new.failures result }
         ensures empty { result ≡ Ok None → octets.new.items ≡ [] }
@@ -351,8 +331,7 @@ impl<M: Net + Files + time::Clock> Port for UdpPorts<'_, M> {
         self.receive_as(true, octets)
     }
 
-    fn receive_now(&mut self, octets: &mut ArrayVec<u8, 2048>) -> Result<Option<Addr>, Device>
-        requires failure_count { self.old.failures < 2 ^ 62 }
+    fn receive_now(&mut self, octets: &mut ArrayVec<u8, 2048>) -> Result<Option<Route>, Device>
         ensures does { PortsDo self.old (receiving result octets.new.items) self.new }
         ensures count { CountsFailure self.old.failures self.new.failures result }
         ensures empty { result ≡ Ok None → octets.new.items ≡ [] }
@@ -360,14 +339,13 @@ impl<M: Net + Files + time::Clock> Port for UdpPorts<'_, M> {
         self.receive_as(false, octets)
     }
 
-    fn send(&mut self, to: Addr, octets: &[u8]) -> Result<(), Device> {
-        let at = self.routes.take(to);
-        let answer = self.sockets.send(at, to, octets);
+    fn send(&mut self, to: Route, octets: &[u8]) -> Result<(), Device> {
+        let answer = self.sockets.send(to.local, to.peer, octets);
         let error = answer.err();
         let sent = sent(answer, false);
         if sent.is_err() {
-            self.failures += 1;
-            self.cause = self.cause_of(MachineCall::Send, at, error);
+            self.failures = one_more(self.failures);
+            self.cause = self.cause_of(MachineCall::Send, to.local, error);
         }
         sent
     }

@@ -1,3 +1,4 @@
 -- What several proofs share; the proof of a function is in the folder of its module and its name.
 mod Ending
 mod Whole
+mod Reading

@@ -35,7 +35,7 @@ Prints (line.Answer texts) known well printed = PrintsAnswer texts well printed
 Prints (line.Show texts) known well printed = PrintsShow texts texts.explain known well printed
 Prints line.Check known well printed = (input : List ℕ) × IsInput known input × PrintsChecked input well printed
 Prints line.Sim known well printed = (input : List ℕ) × IsInput known input × Plays 1 None (lines input) well printed
-Prints line.Draw known well printed = (input : List ℕ) × IsInput known input × Draws input well printed
+Prints line.Draw known well printed = (input : List ℕ) × IsInput known input × Draws input well
 Prints _ known well printed = ⊥
 
 -- It was done: its output was appended, and the status is 0 if nothing is wrong, else 1.

@@ -1,9 +1,6 @@
 -- What `show` prints (our profile).
 use Rattle.std.specs.Prelude.{◌≡◌, ◌↔◌, ℕ, Bool, List, Option, ◌++◌, Ok, codes}
 use Rattle.hex.specs.Hex.{decode_of}
-use Rattle.nbt_explain.specs.Dgrams.{ExplainsDgram}
-use Rattle.nbt_explain.specs.Packets.{ExplainsPacket}
-use Rattle.nbt_explain.specs.Sessions.{ExplainsSession}
 use Rattle.nbt_show.specs.DgramText.{PrintsDgram}
 use Rattle.nbt_show.specs.PacketText.{PrintsOctets}
 use Rattle.nbt_show.specs.SessionText.{PrintsSession}
@@ -30,18 +27,11 @@ pub record ShowsHex (kind hex : List ℕ) (faultless : Bool) (text : List ℕ) :
   pub hex_is : decode_of hex ≡ Ok octets
   pub shows : Shows service octets faultless text
 
--- what explains octets of a service
-abbrev pub Explains : Service → List ℕ → List ℕ → Type 0
-Explains Name octets text = ExplainsPacket octets text
-Explains Dgram octets text = ExplainsDgram octets text
-Explains Session octets text = ExplainsSession octets text
-
--- what is printed with `--explain`: what is without it, and then what explains the octets
+-- what is printed with `--explain`: what is without it, and then what explains the octets, which no definition says
 pub record ShowsAndExplains (service : Service) (octets : List ℕ) (faultless : Bool) (text : List ℕ) : Type 0 where
   pub shown : List ℕ
   pub explained : List ℕ
   pub shows : Shows service octets faultless shown
-  pub explains : Explains service octets explained
   pub text_is : text ≡ shown ++ explained
 
 -- the same of the octets that HEX stands for

@@ -1,7 +1,7 @@
 -- What the texts of arguments spell.
 use Rattle.std.specs.Prelude.{◌≡◌, ◌≢◌, ◌⊎◌, ℕ, List, Option, Ok, codes}
 use Rattle.hex.specs.Hex.{decode_of}
-use Rattle.nbt_explain.specs.Digits.{digits_in}
+use Rattle.nbt_show.specs.Digits.{digits_in}
 use Rattle.nbt_name.specs.declared.addr.Addr.{Addr}
 use Rattle.nbt_text.specs.Address.{SpellsAddress}
 use Rattle.nbt_prog.specs.Input.{IsInput}

@@ -3,7 +3,7 @@ use Rattle.std.proofs.Common.{◌≡◌, ℕ, Bool, true, false, List, [], ◌�
 use Rattle.std.specs.List.{slice_get}
 use Rattle.std.specs.Prelude.{slice_index}
 use Rattle.nbt_port.specs.declared.port.Device.{Device}
-use Rattle.nbt_port.specs.PortCalls.{PortCall, sending}
+use Rattle.nbt_port.specs.PortCalls.{PortCall, sending, route_to}
 use Rattle.nbt_scan.specs.declared.plan.Plan.{Plan}
 use Rattle.nbt_scan.specs.declared.progress.Progress.{Progress}
 use Rattle.nbt_scan.specs.declared.progress.Step.TheVariants.{Ask, Again}
@@ -21,12 +21,12 @@ module _ {P : Type 0} (does : P → PortCall → P → Type 0) (plan : Plan) (re
     subst (λ (q : Progress). Acts does plan request now (record { port = p; scan = scan; sheet = sheet }) Ask [] (record { port = p; scan = record scan { progress = q }; sheet = sheet })) (sym after) (passes_over (is ∙ ap Some was)),
   )
 
-  pub was_asked : (q : P) (has : Bool) (ip : ℕ) (result : Result (Unit {0}) Device) → slice_get scan.replied scan.progress.place ≡ Some has → has ≡ false → ip ≡ slice_index plan.ips.items scan.progress.place → does p (sending (record { ip = ip; port = plan.port }) request result) q
+  pub was_asked : (q : P) (has : Bool) (ip : ℕ) (result : Result (Unit {0}) Device) → slice_get scan.replied scan.progress.place ≡ Some has → has ≡ false → ip ≡ slice_index plan.ips.items scan.progress.place → does p (sending (route_to (record { ip = ip; port = plan.port })) request result) q
       → progress ≡ past now scan.progress → Acted does plan request now Ask (record { port = p; scan = scan; sheet = sheet }) (record { port = q; scan = record scan { progress = progress }; sheet = sheet })
   was_asked q has ip result is was same did after = (
-    sending (end_at plan scan.progress.place) request result ∷ [],
-    subst (λ (r : Progress). Acts does plan request now (record { port = p; scan = scan; sheet = sheet }) Ask (sending (end_at plan scan.progress.place) request result ∷ []) (record { port = q; scan = record scan { progress = r }; sheet = sheet })) (sym after)
-        (asks q result (is ∙ ap Some was) (subst (λ (n : ℕ). does p (sending (record { ip = n; port = plan.port }) request result) q) same did)),
+    sending (route_to (end_at plan scan.progress.place)) request result ∷ [],
+    subst (λ (r : Progress). Acts does plan request now (record { port = p; scan = scan; sheet = sheet }) Ask (sending (route_to (end_at plan scan.progress.place)) request result ∷ []) (record { port = q; scan = record scan { progress = r }; sheet = sheet })) (sym after)
+        (asks q result (is ∙ ap Some was) (subst (λ (n : ℕ). does p (sending (route_to (record { ip = n; port = plan.port })) request result) q) same did)),
   )
 
   pub began_again : progress ≡ again now scan.progress → Acted does plan request now Again (record { port = p; scan = scan; sheet = sheet }) (record { port = p; scan = record scan { progress = progress }; sheet = sheet })

@@ -2,7 +2,7 @@
 use Rattle.std.proofs.Common.{◌≡◌, ℕ, Bool, true, false, List, [], ◌∷◌, ◌++◌, Option, Ok, subst, sym, ap, ◌∙◌, refl}
 use Rattle.std.specs.Io.KnownBytes.{Appends}
 use Rattle.std.specs.String.{string_bytes}
-use Rattle.nbt_name.specs.declared.addr.Addr.{Addr}
+use Rattle.nbt_port.specs.declared.port.Route.{Route}
 use Rattle.nbt_port.specs.PortCalls.{PortCall, receiving}
 use Rattle.nbt_scan.specs.declared.form.Layout.{Layout}
 use Rattle.nbt_scan.specs.declared.plan.Plan.{Plan}
@@ -13,7 +13,7 @@ use Rattle.nbt_scan.specs.Lines.{PrintsHost}
 use Rattle.nbt_scan.specs.Sheets.{Reply, Sheet, Tells, prints, keeps, TellsIf}
 use Rattle.nbt_scan.specs.Inner.Steps.{WasHeard}
 
-pub was_heard : {P : Type 0} (does : P → PortCall → P → Type 0) (plan : Plan) (id : ℕ) (layout : Layout) (p q : P) (scan : Scan) (after : List Bool) (a b : Sheet) (from : Option Addr) (octets lent ips : List ℕ) (reply : Option Reply)
+pub was_heard : {P : Type 0} (does : P → PortCall → P → Type 0) (plan : Plan) (id : ℕ) (layout : Layout) (p q : P) (scan : Scan) (after : List Bool) (a b : Sheet) (from : Option Route) (octets lent ips : List ℕ) (reply : Option Reply)
     → lent ≡ octets → ips ≡ plan.ips.items → does p (receiving (Ok from) octets) q → Hears ips id scan.replied (receiving (Ok from) lent) reply after → TellsIf layout reply a b
     → WasHeard does plan id layout (record { port = p; scan = scan; sheet = a }) (record { port = q; scan = record scan { replied = after }; sheet = b })
 was_heard does plan id layout p q scan after a b from octets lent ips reply same list did hears tells = record {

@@ -2,7 +2,8 @@
 use Rattle.std.specs.Prelude.{◌≡◌, ℕ, ◌^◌, Bool, true, false, List, [], ◌∷◌, length, slice_get, slice_index, slice_set, Option, Some, None, Result}
 use Rattle.nbt_name.specs.declared.addr.Addr.{Addr}
 use Rattle.nbt_port.specs.declared.port.Device.{Device}
-use Rattle.nbt_port.specs.PortCalls.{PortCall, nothing_came, came, sending, Chain}
+use Rattle.nbt_port.specs.declared.port.Route.{Route}
+use Rattle.nbt_port.specs.PortCalls.{PortCall, nothing_came, came, sending, route_to, Chain}
 use Rattle.nbt_scan.specs.declared.form.Layout.{Layout}
 use Rattle.nbt_scan.specs.declared.plan.Plan.{Plan}
 use Rattle.nbt_scan.specs.declared.progress.Step.{Step}
@@ -30,8 +31,8 @@ end_at plan place = record { ip = slice_index plan.ips.items place; port = plan.
 -- What is done at a moment: the request goes to the next address, unless that has replied; or the next pass begins; or nothing. A request that
 -- the port fails to send is lost.
 pub data Acts {P : Type 0} (does : P → PortCall → P → Type 0) (plan : Plan) (request : List ℕ) (now : ℕ) (old : Scanning P) : Step → List PortCall → Scanning P → Type 0 where
-  asks : (port : P) (result : Result (Unit {0}) Device) → slice_get old.scan.replied old.scan.progress.place ≡ Some false → does old.port (sending (end_at plan old.scan.progress.place) request result) port
-      → Acts does plan request now old Ask (sending (end_at plan old.scan.progress.place) request result ∷ []) (record old { port = port; scan = record old.scan { progress = past now old.scan.progress } })
+  asks : (port : P) (result : Result (Unit {0}) Device) → slice_get old.scan.replied old.scan.progress.place ≡ Some false → does old.port (sending (route_to (end_at plan old.scan.progress.place)) request result) port
+      → Acts does plan request now old Ask (sending (route_to (end_at plan old.scan.progress.place)) request result ∷ []) (record old { port = port; scan = record old.scan { progress = past now old.scan.progress } })
   passes_over : slice_get old.scan.replied old.scan.progress.place ≡ Some true → Acts does plan request now old Ask [] (record old { scan = record old.scan { progress = past now old.scan.progress } })
   begins_again : Acts does plan request now old Again [] (record old { scan = record old.scan { progress = again now old.scan.progress } })
   waits : Acts does plan request now old Wait [] old
@@ -40,11 +41,11 @@ pub data Acts {P : Type 0} (does : P → PortCall → P → Type 0) (plan : Plan
 -- What is made of what a receive was: the first reply of each address of the list counts.
 pub data Hears (ips : List ℕ) (id : ℕ) (old : List Bool) : PortCall → Option Reply → List Bool → Type 0 where
   hears_nothing : Hears ips id old nothing_came None old
-  hears_stranger : (from : Addr) (octets : List ℕ) → IsPlaceOf ips from.ip None → Hears ips id old (came from octets) None old
-  hears_again : (from : Addr) (octets : List ℕ) (place : ℕ) → IsPlaceOf ips from.ip (Some place) → slice_get old place ≡ Some true → Hears ips id old (came from octets) None old
-  hears_other : (from : Addr) (octets : List ℕ) → IsNoStatus id octets → Hears ips id old (came from octets) None old
-  hears_reply : (from : Addr) (octets names statistics : List ℕ) (place : ℕ) → IsPlaceOf ips from.ip (Some place) → slice_get old place ≡ Some false → IsStatus id octets names statistics
-      → Hears ips id old (came from octets) (Some (record { ip = from.ip; names = names; statistics = statistics })) (slice_set old place true)
+  hears_stranger : (from : Route) (octets : List ℕ) → IsPlaceOf ips from.peer.ip None → Hears ips id old (came from octets) None old
+  hears_again : (from : Route) (octets : List ℕ) (place : ℕ) → IsPlaceOf ips from.peer.ip (Some place) → slice_get old place ≡ Some true → Hears ips id old (came from octets) None old
+  hears_other : (from : Route) (octets : List ℕ) → IsNoStatus id octets → Hears ips id old (came from octets) None old
+  hears_reply : (from : Route) (octets names statistics : List ℕ) (place : ℕ) → IsPlaceOf ips from.peer.ip (Some place) → slice_get old place ≡ Some false → IsStatus id octets names statistics
+      → Hears ips id old (came from octets) (Some (record { ip = from.peer.ip; names = names; statistics = statistics })) (slice_set old place true)
 
 -- ---- turns
 

@@ -1,6 +1,6 @@
 //! What a scan does at a moment.
 
-ghost use Rattle.std.specs.Prelude.{◌≡◌, ◌+◌, ◌<◌, ◌≤◌, ◌^◌, length};
+ghost use Rattle.std.specs.Prelude.{◌≡◌, ◌<◌, ◌≤◌, length};
 ghost use Rattle.nbt_scan.specs.Plans.{IsPlan};
 ghost use Rattle.nbt_scan.specs.Sheets.{Sheet};
 ghost use Rattle.nbt_scan.specs.Inner.Steps.{Acted};
@@ -10,7 +10,7 @@ use crate::progress::Step;
 use crate::scan::Scan;
 use nbt_lease::Moment;
 use nbt_name::Addr;
-use nbt_port::Port;
+use nbt_port::{Port, Route};
 
 /// Does what a moment asks for: sends the request to the next address, unless that has replied; or begins the next pass; or nothing. A
 /// request that the port fails to send is lost.
@@ -22,7 +22,6 @@ pub fn act<P: Port>(
     now: Moment,
     scan: &mut Scan,
 )
-    requires failure_count { P.failures port.old < 2 ^ 62 }
     requires plan { IsPlan plan.now }
     requires flags { length scan.old.replied ≡ length plan.now.ips.items }
     requires place { step ≡ Step.Ask → scan.old.progress.place < length plan.now.ips.items }
@@ -30,7 +29,6 @@ pub fn act<P: Port>(
     ensures acts { (sheet : Sheet) → Acted P.does plan.now request.now now step (record { port = port.old; scan = scan.old; sheet = sheet }) (record { port = port.new; scan = scan.new; sheet = sheet }) }
     ensures flags { scan.new.replied ≡ scan.old.replied }
     ensures least { P.failures port.old ≤ P.failures port.new }
-    ensures most { P.failures port.new ≤ P.failures port.old + 1 }
 {
     match step {
         Step::Ask => ask(port, plan, request, now, scan),
@@ -41,14 +39,12 @@ pub fn act<P: Port>(
 
 /// Sends the request to the next address, unless that has replied.
 fn ask<P: Port>(port: &mut P, plan: &Plan, request: &[u8], now: Moment, scan: &mut Scan)
-    requires failure_count { P.failures port.old < 2 ^ 62 }
     requires plan { IsPlan plan.now }
     requires flags { length scan.old.replied ≡ length plan.now.ips.items }
     requires place { scan.old.progress.place < length plan.now.ips.items }
     ensures acts { (sheet : Sheet) → Acted P.does plan.now request.now now Step.Ask (record { port = port.old; scan = scan.old; sheet = sheet }) (record { port = port.new; scan = scan.new; sheet = sheet }) }
     ensures flags { scan.new.replied ≡ scan.old.replied }
     ensures least { P.failures port.old ≤ P.failures port.new }
-    ensures most { P.failures port.new ≤ P.failures port.old + 1 }
 {
     let place = scan.progress.place;
     if scan.replied.has(place) {
@@ -59,6 +55,6 @@ fn ask<P: Port>(port: &mut P, plan: &Plan, request: &[u8], now: Moment, scan: &m
         ip: plan.ips[place],
         port: plan.port,
     };
-    let _ = port.send(to, request);
+    let _ = port.send(Route::to(to), request);
     scan.progress.go_past(now);
 }

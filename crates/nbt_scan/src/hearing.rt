@@ -1,6 +1,6 @@
 //! The replies to a scan.
 
-ghost use Rattle.std.specs.Prelude.{◌≡◌, ◌≢◌, ◌<◌, ◌^◌, Ok, Err, OnOk, length};
+ghost use Rattle.std.specs.Prelude.{◌≡◌, ◌≢◌, Ok, Err, OnOk, length};
 ghost use Rattle.nbt_port.specs.PortCalls.{receiving, CountsFailure};
 ghost use Rattle.nbt_scan.specs.Plans.{AreAscending};
 ghost use Rattle.nbt_scan.specs.Scanning.{Hears};
@@ -10,8 +10,7 @@ use crate::addresses::place_of;
 use crate::replied::Replied;
 use crate::status::status_in;
 use arrayvec::ArrayVec;
-use nbt_name::Addr;
-use nbt_port::{Device, Port};
+use nbt_port::{Device, Port, Route};
 
 /// A reply: whose, its names, and the statistics behind them.
 #[derive(Clone, Copy)]
@@ -29,8 +28,7 @@ pub fn receive<P: Port>(
     port: &mut P,
     waits: bool,
     octets: &mut ArrayVec<u8, 2048>,
-) -> Result<Option<Addr>, Device>
-    requires failure_count { P.failures port.old < 2 ^ 62 }
+) -> Result<Option<Route>, Device>
     ensures does { P.does port.old (receiving result octets.new.items) port.new }
     ensures device { CountsFailure (P.failures port.old) (P.failures port.new) result }
 {
@@ -44,7 +42,7 @@ pub fn receive<P: Port>(
 pub fn take_from<'a>(
     ips: &[u32],
     id: u16,
-    from: Option<Addr>,
+    from: Option<Route>,
     octets: &'a [u8],
     replied: &mut Replied,
 ) -> Option<Heard<'a>>
@@ -56,7 +54,7 @@ pub fn take_from<'a>(
     let Some(from) = from else {
         return None;
     };
-    let Some(place) = place_of(ips, from.ip) else {
+    let Some(place) = place_of(ips, from.peer.ip) else {
         return None;
     };
     if replied.has(place) {
@@ -67,7 +65,7 @@ pub fn take_from<'a>(
     };
     replied.mark(place);
     Some(Heard {
-        ip: from.ip,
+        ip: from.peer.ip,
         names: status.names,
         statistics: status.statistics,
     })

@@ -1,7 +1,8 @@
 //! A scan over UDP and the system's monotonic clock.
 
-ghost use Rattle.std.specs.Prelude.{◌≡◌, ◌≢◌, ◌<◌, ◌^◌, false, ℕ, List, Ok, Err, IfOk, OnOk};
+ghost use Rattle.std.specs.Prelude.{◌≡◌, ◌≢◌, ◌≤◌, false, ℕ, List, Ok, Err, IfOk, OnOk};
 ghost use Rattle.std.specs.Io.KnownBytes.{Appends};
+ghost use Rattle.nbt_port.specs.PortCalls.{one_more};
 ghost use Rattle.nbt_scan.specs.Plans.{IsPlan};
 ghost use Rattle.nbt_scan.specs.Running.{ScansOver, ScansHere};
 ghost use Rattle.nbt_scan.specs.Sheets.{PrintsKept};
@@ -107,11 +108,10 @@ pub fn scan_over<P: Port, C: Clock, W: Write, E: Write>(
     meter: &mut Meter,
     errors: &mut E,
 ) -> Result<bool, Fault>
-    requires failure_count { P.failures port.old < 2 ^ 61 }
     requires plan { IsPlan plan.now }
     ensures ok { IfOk result (λ any. ScansOver P.does C.tells plan.now layout any port.old clock.old (W.contents writer.old) port.new clock.new (W.contents writer.new)) }
     // It is `Device` only where a call of the port failed, and where one did, a host replied.
-    ensures failed { result ≡ Err Fault.Device → P.failures port.old < P.failures port.new }
+    ensures failed { result ≡ Err Fault.Device → one_more (P.failures port.old) ≤ P.failures port.new }
     ensures lost { result ≡ Ok false → P.failures port.new ≡ P.failures port.old }
 {
     let failures = port.failures();

@@ -1,6 +1,7 @@
 //! A scan, turn by turn.
 
-ghost use Rattle.std.specs.Prelude.{◌≡◌, ◌+◌, ◌<◌, ◌≤◌, ◌^◌, Err, OnOk, IsTrue, ◌↔◌, length};
+ghost use Rattle.std.specs.Prelude.{◌≡◌, ◌<◌, ◌≤◌, Err, OnOk, IsTrue, ◌↔◌, length};
+ghost use Rattle.nbt_port.specs.PortCalls.{one_more};
 ghost use Rattle.nbt_scan.specs.Plans.{IsPlan};
 ghost use Rattle.nbt_scan.specs.Scanning.{Scans};
 ghost use Rattle.nbt_scan.specs.Inner.Steps.{WasHeard, Went};
@@ -40,14 +41,13 @@ pub fn scan_all<P: Port, C: Clock, W: Write, E: Write>(
     meter: &mut Meter,
     errors: &mut E,
 ) -> Result<(), Fault>
-    requires failure_count { P.failures port.old < 2 ^ 61 }
     requires plan { IsPlan plan.now }
     requires flags { length scan.old.replied ≡ length plan.now.ips.items }
     ensures ok { OnOk result (Scans P.does C.tells plan.now id request.now layout
         (record { clock = clock.old; here = record { port = port.old; scan = scan.old; sheet = record { kept = kept.old.items; text = W.contents writer.old } } })
         (record { clock = clock.new; here = record { port = port.new; scan = scan.new; sheet = record { kept = kept.new.items; text = W.contents writer.new } } })) }
     // It is `Device` only where a call of the port failed.
-    ensures failed { result ≡ Err Fault.Device → P.failures port.old < P.failures port.new }
+    ensures failed { result ≡ Err Fault.Device → one_more (P.failures port.old) ≤ P.failures port.new }
     ensures least { P.failures port.old ≤ P.failures port.new }
 {
     for _ in 0..TURNS_MOST {
@@ -77,16 +77,14 @@ fn turn<P: Port, W: Write, E: Write>(
     meter: &mut Meter,
     errors: &mut E,
 ) -> Result<(), Fault>
-    requires failure_count { P.failures port.old < 2 ^ 61 + 2 ^ 60 }
     requires plan { IsPlan plan.now }
     requires flags { length scan.old.replied ≡ length plan.now.ips.items }
     ensures ok { OnOk result (Went P.does plan.now id request.now layout now
         (record { port = port.old; scan = scan.old; sheet = record { kept = kept.old.items; text = W.contents writer.old } })
         (record { port = port.new; scan = scan.new; sheet = record { kept = kept.new.items; text = W.contents writer.new } })) }
     ensures flags { length scan.new.replied ≡ length scan.old.replied }
-    ensures failed { result ≡ Err Fault.Device → P.failures port.old < P.failures port.new }
+    ensures failed { result ≡ Err Fault.Device → one_more (P.failures port.old) ≤ P.failures port.new }
     ensures least { P.failures port.old ≤ P.failures port.new }
-    ensures most { P.failures port.new ≤ P.failures port.old + 2 }
 {
     let step = scan.progress.step_at(plan, now);
     act(port, step, plan, request, now, scan);
@@ -124,16 +122,14 @@ fn hear<P: Port, W: Write, E: Write>(
     meter: &mut Meter,
     errors: &mut E,
 ) -> Result<(), Fault>
-    requires failure_count { P.failures port.old < 2 ^ 62 }
     requires plan { IsPlan plan.now }
     requires flags { length scan.old.replied ≡ length plan.now.ips.items }
     ensures ok { OnOk result (WasHeard P.does plan.now id layout
         (record { port = port.old; scan = scan.old; sheet = record { kept = kept.old.items; text = W.contents writer.old } })
         (record { port = port.new; scan = scan.new; sheet = record { kept = kept.new.items; text = W.contents writer.new } })) }
     ensures flags { length scan.new.replied ≡ length scan.old.replied }
-    ensures failed { result ≡ Err Fault.Device → P.failures port.new ≡ P.failures port.old + 1 }
+    ensures failed { result ≡ Err Fault.Device → P.failures port.new ≡ one_more (P.failures port.old) }
     ensures least { P.failures port.old ≤ P.failures port.new }
-    ensures most { P.failures port.new ≤ P.failures port.old + 1 }
 {
     let mut octets = ArrayVec::new();
     let from = receive(port, waits, &mut octets)?;

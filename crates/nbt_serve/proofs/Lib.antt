@@ -8,3 +8,24 @@ mod OneTurn
 pub mod SambaReading
 pub mod SambaTaken
 pub mod SambaOthers
+-- what is kept of leases, after each change
+pub mod Kept
+-- what the server did with a datagram, and the change that it is
+pub mod Told
+-- a server that resumes with what was kept
+pub mod Resumed
+-- what waits leaves, and what a datagram makes of a server and of what waits
+mod Never
+mod Leaving
+mod Taking
+mod Passed
+-- what came of a look at the file
+mod Looked
+-- what is kept where a server's live leases are written in place of all
+mod Renewed
+-- what was left out of a list, and the last time of changes
+mod Left
+-- what a crash leaves, call by call, and of whole runs
+mod Crashes
+mod Runs
+mod WholeRuns

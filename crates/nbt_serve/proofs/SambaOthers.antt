@@ -1,10 +1,10 @@
 -- Of what spells another message than an overwrite of a group nothing is taken.
 use Rattle.std.proofs.Common.{◌≡◌, ℕ, ◌<◌, ◌≤◌, List, refl, arith, inl, inr}
-use Rattle.nbt_name.specs.declared.addr.Addr.{Addr}
 use Rattle.nbt_packet.specs.declared.message.Registration.{Registration}
 use Rattle.nbt_packet.specs.Packet.{PacketValue}
 use Rattle.nbt_packet.specs.Message.{MessageValue, MessageIs, Requests, registration, overwrite, refresh, release, query, status_request, registered, released, found, not_found, status, wait}
 use Rattle.nbt_packet.specs.Spelling.{Spells}
+use Rattle.nbt_port.specs.declared.port.Route.{Route}
 use Rattle.nbt_port.specs.PortCalls.{PortCall, came}
 use Rattle.nbt_serve.specs.Samba.{multi_homed, IsTaken, by_opcode, by_group}
 use Rattle.nbt_serve.specs.SambaPort.{Becomes, taken, unchanged, IsGroupOverwrite, ComesAsItIs}
@@ -51,7 +51,7 @@ untaken : (octets : List ℕ) (message : MessageValue) → ((m n : MessageValue)
 untaken octets message one s other r (by_opcode requests claim) = not_multi_homed s.packet message s.message_is (rw s.packet_is.flags requests)
 untaken octets message one s other r (by_group own kind claim) = other (rw (one message (overwrite r) s own) kind)
 
-unchanged_by : (from : Addr) (octets : List ℕ) (call : PortCall) → ((r : Registration) → IsTaken octets r → ⊥) → Becomes (came from octets) call → call ≡ came from octets
+unchanged_by : (from : Route) (octets : List ℕ) (call : PortCall) → ((r : Registration) → IsTaken octets r → ⊥) → Becomes (came from octets) call → call ≡ came from octets
 unchanged_by from octets call none (taken _ _ r t) = absurd (none r t)
 unchanged_by from octets call none (unchanged _ other) = refl
 

@@ -5,10 +5,10 @@ use Rattle.std.specs.List.{refill}
 use Rattle.std.proofs.lemmas.List.{length-set, take_at}
 use Rattle.nbt_name.specs.declared.addr.Kind.TheVariants.{Group}
 use Rattle.nbt_name.specs.Words.{word_at}
-use Rattle.nbt_name.specs.declared.addr.Addr.{Addr}
 use Rattle.nbt_packet.specs.declared.message.Registration.{Registration}
 use Rattle.nbt_packet.specs.Message.{MessageValue, Requests, IsRequest, DesiresRecursion, opcode_of, registration, overwrite}
 use Rattle.nbt_packet.specs.Spelling.{Spells}
+use Rattle.nbt_port.specs.declared.port.Route.{Route}
 use Rattle.nbt_port.specs.declared.port.Device.{Device}
 use Rattle.nbt_port.specs.PortCalls.{came, receiving, sending}
 use Rattle.nbt_serve.specs.Samba.{multi_homed, as_registration, IsTaken, by_opcode, by_group}
@@ -57,7 +57,7 @@ pub one_claim : {r s : Registration} → registration r ≡ registration s → r
 one_claim e = cc
 
 -- a send is no datagram that came, and a receive of nothing isn't one either
-pub sent_is_other : {A : Type 0} (to : Addr) (octets : List ℕ) (result : Result A Device) → IsOther (sending to octets result)
+pub sent_is_other : {A : Type 0} (to : Route) (octets : List ℕ) (result : Result A Device) → IsOther (sending to octets result)
 sent_is_other to octets (Ok done) = λ from others r e t. absurd cc
 sent_is_other to octets (Err failure) = λ from others r e t. absurd cc
 
@@ -67,10 +67,10 @@ failed_is_other octets failure = λ from others r e t. absurd cc
 nothing_is_other : (octets : List ℕ) → IsOther (receiving (Ok None) octets)
 nothing_is_other octets = λ from others r e t. absurd cc
 
-came_octets : {a b : Addr} {x y : List ℕ} → came a x ≡ came b y → x ≡ y
+came_octets : {a b : Route} {x y : List ℕ} → came a x ≡ came b y → x ≡ y
 came_octets e = cc
 
-untaken_is_other : (from : Addr) (octets : List ℕ) → (((r : Registration) × IsTaken octets r) → ⊥) → IsOther (came from octets)
+untaken_is_other : (from : Route) (octets : List ℕ) → (((r : Registration) × IsTaken octets r) → ⊥) → IsOther (came from octets)
 untaken_is_other from octets none = λ other others r e t. none (r, rw (came_octets e) t)
 
 -- ---- what is handed on
@@ -79,11 +79,11 @@ untaken_is_other from octets none = λ other others r e t. none (r, rw (came_oct
 refill_whole : (old new : List ℕ) → length new ≡ length old → refill (length old) old new ≡ new
 refill_whole old new same = take_at new _ (length old) same
 
-pub hands_nothing : (from : Option Addr) (octets : List ℕ) → false ≡ is_some from → Becomes (receiving (Ok from) octets) (receiving (Ok from) octets)
+pub hands_nothing : (from : Option Route) (octets : List ℕ) → false ≡ is_some from → Becomes (receiving (Ok from) octets) (receiving (Ok from) octets)
 hands_nothing None octets none = unchanged (receiving (Ok None) octets) (nothing_is_other octets)
 hands_nothing (Some from) octets none = absurd cc
 
-pub hands_on : (from : Option Addr) (old lent new : List ℕ) (answer : Bool) → true ≡ is_some from → lent ≡ old → IsTrue answer ↔ ((r : Registration) × IsTaken lent r) → MatchBool answer (new ≡ as_registration lent) (new ≡ lent)
+pub hands_on : (from : Option Route) (old lent new : List ℕ) (answer : Bool) → true ≡ is_some from → lent ≡ old → IsTrue answer ↔ ((r : Registration) × IsTaken lent r) → MatchBool answer (new ≡ as_registration lent) (new ≡ lent)
     → Becomes (receiving (Ok from) old) (receiving (Ok from) (refill (length old) old new))
 hands_on None old lent new answer some same is_taken written = absurd cc
 hands_on (Some from) old lent new true some same is_taken written =

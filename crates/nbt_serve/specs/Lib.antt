@@ -3,3 +3,9 @@ pub mod OneAnswer
 pub mod Samba
 pub mod SambaPort
 pub mod Serving
+pub mod Changing
+pub mod Devices
+pub mod Waiting
+pub mod Turning
+pub mod Runs
+pub mod Looking

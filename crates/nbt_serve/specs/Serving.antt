@@ -1,7 +1,6 @@
 -- What a server does in turns over a port and a clock (our profile).
 use Rattle.std.specs.Prelude.{◌≡◌, ℕ, ◌+◌, ◌<◌, List, [], ◌∷◌, ◌++◌, length, Option, Some, None}
 use Rattle.std.specs.List.{flat_map, sum_by}
-use Rattle.nbt_name.specs.declared.addr.Addr.{Addr}
 use Rattle.nbt_packet.specs.Message.{MessageValue}
 use Rattle.nbt_packet.specs.Text.{text}
 use Rattle.nbt_server.specs.Serving.{ServerValue}
@@ -11,18 +10,19 @@ use Rattle.nbt_server.specs.declared.outcome.Outcome.{Outcome}
 use Rattle.nbt_log.specs.Kinds.{entry_of}
 use Rattle.nbt_log.specs.declared.entry.Entry.{Entry}
 use Rattle.nbt_serve.specs.declared.serving.Counts.{Counts}
+use Rattle.nbt_port.specs.declared.port.Route.{Route}
 use Rattle.nbt_port.specs.PortCalls.{PortCall, nothing_came, came, receive_failed, sent, send_failed, Chain}
 
 -- ---- one turn
 
--- Nothing came in it; or a datagram did, from an end, and at the moment read then the server took it, with a reply or
+-- Nothing came in it; or a datagram did, by a route, and at the moment read then the server took it, with a reply or
 -- without one, or it was lost.
 pub data Turn : Type 0 where
   is_empty : Turn
-  is_taken : (now : ℕ) → (from : Addr) → (octets : List ℕ) → (reply : Option MessageValue) → Turn
-  is_lost : (now : ℕ) → (from : Addr) → (octets : List ℕ) → Turn
+  is_taken : (now : ℕ) → (from : Route) → (octets : List ℕ) → (reply : Option MessageValue) → Turn
+  is_lost : (now : ℕ) → (from : Route) → (octets : List ℕ) → Turn
 
--- the calls of the port: one receive, and the reply to the datagram's sender
+-- the calls of the port: one receive, and the reply by the datagram's route
 abbrev pub acts_in : Turn → List PortCall
 acts_in is_empty = nothing_came ∷ []
 acts_in (is_taken now from octets None) = came from octets ∷ []
@@ -39,14 +39,14 @@ moments_in (is_lost now from octets) = now ∷ []
 -- was refused.
 pub data Turns (old : ServerValue) : Turn → ServerValue → Type 0 where
   passes : Turns old is_empty old
-  takes : (now : ℕ) (from : Addr) (octets : List ℕ) (reply : Option MessageValue) (new : ServerValue) → ServerTakes old now from.ip octets reply new → Turns old (is_taken now from octets reply) new
-  goes_back : (now : ℕ) (from : Addr) (octets : List ℕ) → now < old.last → Turns old (is_lost now from octets) old
-  has_no_memory : (now : ℕ) (from : Addr) (octets : List ℕ) (new : ServerValue) → ServerForgets old now from.ip octets new → Turns old (is_lost now from octets) new
+  takes : (now : ℕ) (from : Route) (octets : List ℕ) (reply : Option MessageValue) (new : ServerValue) → ServerTakes old now from.peer.ip octets reply new → Turns old (is_taken now from octets reply) new
+  goes_back : (now : ℕ) (from : Route) (octets : List ℕ) → now < old.last → Turns old (is_lost now from octets) old
+  has_no_memory : (now : ℕ) (from : Route) (octets : List ℕ) (new : ServerValue) → ServerForgets old now from.peer.ip octets new → Turns old (is_lost now from octets) new
 
 -- What the log has of a turn: nothing, where no datagram came or it was lost; else its entry, with what the server did.
 abbrev pub IsLogged : {old new : ServerValue} {turn : Turn} → Turns old turn new → Option Entry → Type 0
 IsLogged passes entry = entry ≡ None
-IsLogged (takes now from octets reply new does) entry = (outcome : Outcome) × IsDone does.serves outcome × (entry ≡ Some (entry_of from octets outcome))
+IsLogged (takes now from octets reply new does) entry = (outcome : Outcome) × IsDone does.serves outcome × (entry ≡ Some (entry_of from.peer octets outcome))
 IsLogged (goes_back now from octets early) entry = entry ≡ None
 IsLogged (has_no_memory now from octets new forgets) entry = entry ≡ None
 
@@ -64,7 +64,7 @@ pub record WatchesTurn {P C : Type 0} (does : P → PortCall → P → Type 0) (
 -- The receive failed; or a datagram came and was taken, and the send of its reply failed.
 pub data Failure : Type 0 where
   of_receive : Failure
-  of_send : (now : ℕ) → (from : Addr) → (octets : List ℕ) → (reply : MessageValue) → Failure
+  of_send : (now : ℕ) → (from : Route) → (octets : List ℕ) → (reply : MessageValue) → Failure
 
 abbrev pub acts_of : Failure → List PortCall
 acts_of of_receive = receive_failed ∷ []
@@ -77,7 +77,7 @@ moments_of (of_send now from octets reply) = now ∷ []
 -- the server is as after what was read
 abbrev pub Fails : ServerValue → Failure → ServerValue → Type 0
 Fails old of_receive new = new ≡ old
-Fails old (of_send now from octets reply) new = ServerTakes old now from.ip octets (Some reply) new
+Fails old (of_send now from octets reply) new = ServerTakes old now from.peer.ip octets (Some reply) new
 
 -- ---- all turns
 

@@ -6,8 +6,7 @@ ghost use Rattle.nbt_serve.specs.SambaPort.{Becomes};
 
 use crate::samba::take_registration;
 use arrayvec::ArrayVec;
-use nbt_name::Addr;
-use nbt_port::{Cause, Device, OwnReplies, Port};
+use nbt_port::{Cause, Device, OwnReplies, Port, Route};
 use std::io::Write;
 use std::marker::Model;
 
@@ -48,19 +47,19 @@ impl<P: Port> Port for SambaPort<P> {
 
     ghost failures = { P.failures };
 
-    fn receive(&mut self, octets: &mut ArrayVec<u8, 2048>) -> Result<Option<Addr>, Device> {
+    fn receive(&mut self, octets: &mut ArrayVec<u8, 2048>) -> Result<Option<Route>, Device> {
         let from = self.beneath.receive(octets)?;
         hand_on(from, octets);
         Ok(from)
     }
 
-    fn receive_now(&mut self, octets: &mut ArrayVec<u8, 2048>) -> Result<Option<Addr>, Device> {
+    fn receive_now(&mut self, octets: &mut ArrayVec<u8, 2048>) -> Result<Option<Route>, Device> {
         let from = self.beneath.receive_now(octets)?;
         hand_on(from, octets);
         Ok(from)
     }
 
-    fn send(&mut self, to: Addr, octets: &[u8]) -> Result<(), Device> {
+    fn send(&mut self, to: Route, octets: &[u8]) -> Result<(), Device> {
         self.beneath.send(to, octets)
     }
 
@@ -82,7 +81,7 @@ impl<P: Port> Port for SambaPort<P> {
 }
 
 /// Makes of what was received, if something was, what is handed on.
-fn hand_on(from: Option<Addr>, octets: &mut ArrayVec<u8, 2048>)
+fn hand_on(from: Option<Route>, octets: &mut ArrayVec<u8, 2048>)
     ensures { Becomes (receiving (Ok from) octets.old.items) (receiving (Ok from) octets.new.items) }
 {
     if from.is_some() {

@@ -50,17 +50,16 @@ impl Counts {
 }
 
 /// The server goes through `turns` turns: in each it receives, and where a datagram came it reads the clock, handles the
-/// datagram at that time, and sends the reply, if there is one, to the datagram's sender. Returns what it did. A datagram that
-/// the server refuses is lost: the clock went back, or it changes the leases and it is out of memory; start and leases stay,
-/// and the turns go on. Refused with `Device` at the first call of the port that fails: the server is then as after the
-/// datagrams that came.
+/// datagram at that time, and sends the reply, if there is one. The reply leaves by the route of its datagram, from the address
+/// that was asked. Returns what it did. A datagram that the server refuses is lost: the clock went back, or it changes the
+/// leases and it is out of memory; start and leases stay, and the turns go on. Refused with `Device` at the first call of the
+/// port that fails: the server is then as after the datagrams that came.
 pub fn serve_turns<P: Port, C: Clock>(
     port: &mut P,
     clock: &mut C,
     server: &mut Server,
     turns: u64,
 ) -> Result<Counts, Device>
-    requires failure_count { P.failures port.old < 2 ^ 62 }
     ensures ok { IfOk result (λ counts. Runs P.does C.tells turns counts port.old clock.old server.old port.new clock.new server.new) }
     ensures err { OnErr result (Breaks P.does C.tells turns port.old clock.old server.old port.new clock.new server.new) }
     // It is refused exactly where the port's count of failures grew.
@@ -94,7 +93,6 @@ pub fn serve_turn<P: Port, C: Clock>(
     octets: &mut ArrayVec<u8, 2048>,
     reply: &mut ArrayVec<u8, 576>,
 ) -> Result<ServedTurn, Device>
-    requires failure_count { P.failures port.old < 2 ^ 62 }
     ensures ok { IfOk result (λ turned. WatchesTurn P.does C.tells port.old clock.old server.old turned.entry port.new clock.new server.new
         × Runs P.does C.tells 1 turned.counts port.old clock.old server.old port.new clock.new server.new) }
     ensures err { OnErr result (Breaks P.does C.tells 1 port.old clock.old server.old port.new clock.new server.new) }
@@ -113,13 +111,13 @@ pub fn serve_turn<P: Port, C: Clock>(
         });
     };
     let now = clock.now();
-    match server.handle(now, from, octets.as_slice(), reply) {
+    match server.handle(now, from.peer, octets.as_slice(), reply) {
         Ok(outcome) => {
             if outcome.has_reply() {
                 port.send(from, reply.as_slice())?;
                 counts.replies = 1;
             }
-            let entry = Some(Entry::of(from, octets.as_slice(), outcome));
+            let entry = Some(Entry::of(from.peer, octets.as_slice(), outcome));
             Ok(ServedTurn { entry, counts })
         }
         Err(_) => {

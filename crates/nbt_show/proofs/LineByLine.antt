@@ -1,4 +1,4 @@
--- Verdicts line by line: what stands in a line that was read, the lines that are left, and the verdicts so far.
+-- Verdicts line by line: the lines that are left, and the verdicts so far.
 use Rattle.std.proofs.Common.{◌≡◌, ℕ, ◌+◌, ◌==◌, List, [], ◌∷◌, ◌++◌, get_or, Bool, false, Option, Some, None, ◌∙◌, ap, refl, arith, subst, append_assoc}
 use Rattle.std.specs.Prelude.{MatchOption}
 use Rattle.std.specs.List.{All}
@@ -6,30 +6,8 @@ use Rattle.std.proofs.lemmas.List.Splits.{slice_split_at, slice_split_none}
 use Rattle.std.proofs.lemmas.Bool.{ne_eqb}
 use Rattle.std.proofs.lemmas.List.{get_or_default, append-nil}
 use denote.Ref.{Bor}
-use Rattle.nbt_show.specs.declared.vector.Expected.{Expected}
-use Rattle.nbt_show.specs.declared.vector.Line.{Line}
-use Rattle.nbt_show.specs.declared.vector.Line.TheVariants as line
-use Rattle.nbt_show.specs.declared.vector.Vector.{Vector}
-use Rattle.nbt_text.specs.Lines.{HasNo, IsPassedOver, words, lines}
-use Rattle.nbt_show.specs.Inner.Line.{LineIs, passed_over, vector_stands, unreadable}
-use Rattle.nbt_show.specs.Verdicts.{SpellsVector, PrintsVerdict, PrintsVerdicts, one_line, no_lines, passed_in, failed_in}
-
-pub blank_in : (text : List ℕ) (said : Line) → LineIs text said → said ≡ line.Blank → IsPassedOver text
-blank_in text _ (passed_over blank) e = blank
-blank_in text _ (vector_stands v some spelled) e = absurd cc
-blank_in text _ (unreadable some none) e = absurd cc
-
-pub vector_in : (text : List ℕ) (said : Line) (v : Vector) → LineIs text said → said ≡ line.Vector v → (¬ IsPassedOver text) × SpellsVector (words text) v.octets.items v.expected
-vector_in text _ v (passed_over blank) e = absurd cc
-vector_in text _ v (vector_stands other some spelled) e =
-    let same : other ≡ v = cc in (some, subst (λ (x : Vector). SpellsVector (words text) x.octets.items x.expected) same spelled)
-vector_in text _ v (unreadable some none) e = absurd cc
-
-pub nothing_in : (text : List ℕ) (said : Line) → LineIs text said → said ≡ line.Unreadable
-    → (¬ IsPassedOver text) × ((octets : List ℕ) (expected : Expected) → ¬ SpellsVector (words text) octets expected)
-nothing_in text _ (passed_over blank) e = absurd cc
-nothing_in text _ (vector_stands v some spelled) e = absurd cc
-nothing_in text _ (unreadable some none) e = (some, none)
+use Rattle.nbt_text.specs.Lines.{HasNo, lines}
+use Rattle.nbt_show.specs.Verdicts.{PrintsVerdict, PrintsVerdicts, one_line, no_lines, passed_in, failed_in}
 
 -- ---- the lines that are left
 

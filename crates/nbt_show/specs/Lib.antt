@@ -1,4 +1,5 @@
 pub mod DgramText
+pub mod Digits
 pub mod Holders
 pub mod Inner
 pub mod NodeStatus

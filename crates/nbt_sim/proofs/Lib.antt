@@ -14,3 +14,5 @@ pub mod Written
 pub mod Places
 -- what the lines have printed so far
 pub mod Playing
+-- what is written of a text in an XML document is read as that text
+pub mod Escaped

@@ -1,34 +1,11 @@
 -- A script line by line: what its lines have printed so far, and what is left.
-use Rattle.std.proofs.Common.{◌≡◌, ◌≢◌, ℕ, ◌+◌, List, [], ◌∷◌, ◌++◌, Bool, true, false, Option, refl, subst, append_assoc, codes}
+use Rattle.std.proofs.Common.{◌≡◌, ◌≢◌, ℕ, ◌+◌, List, [], ◌∷◌, ◌++◌, Bool, true, false, Option, refl, append_assoc, codes}
 use Rattle.std.proofs.lemmas.List.{append-nil}
-use Rattle.nbt_text.specs.Lines.{IsPassedOver, words, verdict_line}
+use Rattle.nbt_text.specs.Lines.{verdict_line}
 use Rattle.nbt_world.specs.World.{WorldValue}
-use Rattle.nbt_sim.specs.declared.instruction.Instruction.{Instruction}
-use Rattle.nbt_sim.specs.declared.instruction.Line.{Line}
-use Rattle.nbt_sim.specs.declared.instruction.Line.TheVariants as line
-use Rattle.nbt_sim.specs.Line.{Says, LineIs, passed_over, said, unreadable}
 use Rattle.nbt_sim.specs.declared.script.Played.{Played}
 use Rattle.nbt_sim.specs.declared.script.Played.TheVariants as played
 use Rattle.nbt_sim.specs.Script.{Plays, ends, passes_over, does, stops, PlaysLine, is_blank, is_done, is_unreadable}
-
--- ---- what stands in a line that was read
-
-pub blank_in : (text : List ℕ) (l : Line) → LineIs text l → l ≡ line.Blank → IsPassedOver text
-blank_in text _ (passed_over blank) e = blank
-blank_in text _ (said i some p) e = absurd cc
-blank_in text _ (unreadable some none) e = absurd cc
-
-pub said_in : (text : List ℕ) (l : Line) (i : Instruction) → LineIs text l → l ≡ line.Says i → (¬ IsPassedOver text) × Says (words text) i
-said_in text _ i (passed_over blank) e = absurd cc
-said_in text _ i (said j some p) e = let same : j ≡ i = cc in (some, subst (λ (x : Instruction). Says (words text) x) same p)
-said_in text _ i (unreadable some none) e = absurd cc
-
-pub nothing_in : (text : List ℕ) (l : Line) → LineIs text l → l ≡ line.Unreadable → (¬ IsPassedOver text) × ((i : Instruction) → ¬ Says (words text) i)
-nothing_in text _ (passed_over blank) e = absurd cc
-nothing_in text _ (said i some p) e = absurd cc
-nothing_in text _ (unreadable some none) e = (some, none)
-
--- ---- the lines so far
 
 -- what the lines that are left print completes what all print
 abbrev pub Continues : (start : Option WorldValue) (number : ℕ) (world : Option WorldValue) (left all : List (List ℕ)) (text : List ℕ) → Type 0

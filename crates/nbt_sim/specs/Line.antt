@@ -58,7 +58,7 @@ pub data Says : List (List ℕ) → Instruction → Type 0 where
   says : (verb : Verb) (rest : List (List ℕ)) (i : Instruction) → SaysOf verb rest i → Says (verb_word verb ∷ rest) i
 
 -- What stands in a line.
-pub data LineIs (text : List ℕ) : Line → Type 0 where
-  passed_over : IsPassedOver text → LineIs text line.Blank
-  said : (i : Instruction) → ¬ (IsPassedOver text) → Says (words_of text) i → LineIs text (line.Says i)
-  unreadable : ¬ (IsPassedOver text) → ((i : Instruction) → ¬ Says (words_of text) i) → LineIs text line.Unreadable
+abbrev pub LineIs : List ℕ → Line → Type 0
+LineIs text line.Blank = IsPassedOver text
+LineIs text (line.Says i) = (¬ IsPassedOver text) × Says (words_of text) i
+LineIs text line.Unreadable = (¬ IsPassedOver text) × ((i : Instruction) → ¬ Says (words_of text) i)

@@ -27,7 +27,8 @@ use Rattle.nbt_sim.specs.declared.script.Played.TheVariants as played
 use Rattle.nbt_sim.specs.declared.instruction.Instruction.{Instruction}
 use Rattle.nbt_sim.specs.declared.instruction.Instruction.TheVariants as instruction
 use Rattle.nbt_sim.specs.Line.{Says}
-use Rattle.nbt_sim.specs.Words.{kind_word, kept_word, timely_word}
+use Rattle.nbt_show.specs.Holders.{kind_word}
+use Rattle.nbt_sim.specs.Words.{kept_word, timely_word}
 
 -- ---- the world of a script
 

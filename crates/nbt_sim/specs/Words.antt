@@ -2,8 +2,8 @@
 use Rattle.std.specs.Prelude.{◌≡◌, ℕ, ◌≤◌, ◌<◌, ◌^◌, Bool, true, false, List, ◌++◌, codes}
 use Rattle.std.specs.Fmt.{decimal}
 use Rattle.nbt_name.specs.declared.addr.Kind.{Kind}
-use Rattle.nbt_name.specs.declared.addr.Kind.TheVariants.{Unique, Group}
 use Rattle.nbt_lease.specs.Config.{last_moment}
+use Rattle.nbt_show.specs.Holders.{kind_word}
 use Rattle.nbt_text.specs.Number.{SpellsNumber}
 use Rattle.nbt_sim.specs.declared.verb.Verb.{Verb}
 use Rattle.nbt_sim.specs.declared.verb.Verb.TheVariants.{Config, At, Advance, Start, Crash, Resume, Ask, Release, Resolve, Status, Poll, Deliver, Stranger, Beside, Holders, Kept, Timely}
@@ -43,10 +43,6 @@ SpellsServer word _ = word ≡ codes "s"
 pub data SpellsEnd : List ℕ → ℕ → Type 0 where
   the_server : SpellsEnd (codes "s") 0
   a_node : (word : List ℕ) (number : ℕ) → SpellsNode word number → SpellsEnd word number
-
-abbrev pub kind_word : Kind → List ℕ
-kind_word Unique = codes "unique"
-kind_word Group = codes "group"
 
 abbrev pub SpellsKind : List ℕ → Kind → Type 0
 SpellsKind word kind = word ≡ kind_word kind

@@ -2,7 +2,6 @@
 
 ghost use Rattle.std.specs.Prelude.{◌≡◌, ◌++◌, ℕ, List, Option, OnOk};
 ghost use Rattle.std.specs.String.{string_bytes};
-ghost use Rattle.nbt_name.specs.declared.addr.Kind.{Kind};
 ghost use Rattle.nbt_node.specs.declared.fault.AskFault.{AskFault};
 ghost use Rattle.nbt_node.specs.declared.fault.ReleaseFault.{ReleaseFault};
 ghost use Rattle.nbt_node.specs.declared.fault.LookupFault.{LookupFault};
@@ -12,12 +11,13 @@ ghost use Rattle.nbt_text.specs.NameText.{PrintsName};
 ghost use Rattle.nbt_world.specs.World.{WorldValue};
 ghost use Rattle.nbt_world.specs.Step.{Step};
 ghost use Rattle.nbt_sim.specs.Script.{Does, NamesRefusal, Prints, PrintsOutcome, holder_text, holders_line, holders_text};
-ghost use Rattle.nbt_sim.specs.Words.{kept_word, kind_word, timely_word};
+ghost use Rattle.nbt_sim.specs.Words.{kept_word, timely_word};
 
 use crate::instruction::Instruction;
 use crate::report::Report;
-use nbt_name::{Kind, Name};
+use nbt_name::Name;
 use nbt_node::{AskFault, LookupFault, ReleaseFault};
+use nbt_show::kind_word;
 use nbt_text::{end_line, write_name};
 use nbt_world::{Event, Holder, Outcome};
 use std::alloc::AllocError;
@@ -156,16 +156,6 @@ fn write_holder(holder: Holder, out: &mut String) -> Result<(), AllocError>
     ensures { OnOk result (string_bytes out.new ≡ string_bytes out.old ++ holder_text holder) }
 {
     let node = holder.node;
-    let kind = word_of_kind(holder.kind);
+    let kind = kind_word(holder.kind);
     write!(out, "n{node} {kind}")
-}
-
-/// The word for a kind.
-fn word_of_kind(kind: Kind) -> &'static str
-    ensures { result.now ≡ kind_word kind }
-{
-    match kind {
-        Kind::Unique => "unique",
-        Kind::Group => "group",
-    }
 }

@@ -8,3 +8,7 @@ pub mod Members
 pub mod Crashing
 pub mod Asking
 pub mod OneReading
+-- whether a server goes on with what was kept
+mod Deciding
+-- whether a lease that was kept outlasts its silence
+mod Outlasted

@@ -16,3 +16,6 @@ pub mod Writing
 pub mod Headers
 pub mod Numbers
 pub mod Times
+pub mod Resuming
+pub mod Outlasting
+pub mod Beginning

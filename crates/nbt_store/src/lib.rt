@@ -1,6 +1,8 @@
-//! What a name server keeps of its leases over a crash (our profile): changes of leases, in order, as lines of a file.
+//! What a name server keeps of its leases over a crash (our profile): changes of leases, in order, as lines of a file; and with what a
+//! server begins that finds such a file: it goes on, or begins anew and is silent, and whether a kept lease outlasts that silence.
 #![tactic(auto)]
 
+mod beginning;
 mod boot;
 mod change;
 mod disk;
@@ -10,8 +12,10 @@ mod form;
 mod header;
 pub mod laws;
 mod memory_disk;
+mod outlasting;
 mod reading;
 mod record;
+mod resuming;
 mod sealing;
 mod silence;
 mod store;
@@ -23,6 +27,7 @@ mod verb;
 mod word;
 mod writing;
 
+pub use beginning::{Begun, begin};
 pub use boot::Boot;
 pub use change::Change;
 pub use disk::Disk;
@@ -31,7 +36,9 @@ pub use fault::{Fault, ReadFault};
 pub use form::Form;
 pub use header::Header;
 pub use memory_disk::{MemoryDisk, Trouble};
+pub use outlasting::outlasts;
 pub use reading::{Loaded, load, load_header};
+pub use resuming::{Decided, Found, Going, Reason, resume};
 pub use sealing::checksum;
 pub use silence::{Onward, Seen, Silence, bears_out, why_silent};
 pub use store::{Broken, Store};

@@ -18,7 +18,8 @@ use Rattle.nbt_world.specs.Drift.{reading, later, least_of, numbers_of, lesser, 
 use Rattle.nbt_world.specs.World.{WorldValue, IsEnd, addr_of, with_node, datagram}
 use Rattle.nbt_world.specs.Step.{Advances, Step, ticks, advances, starts, starts_nothing, crashes, crashes_nothing, resumes, resumes_nothing, node_does, node_is_down, no_datagram, no_end, too_late, delivered, from_an_end, to_no_end, from_a_stranger, beside_no_end, beside_moves, beside_to_no_end, from_beside, CallOutcomeValue, nothing, refusal, octets_to, after, TakenValue, is_down, is_lost, takes, EndTakes, finds_down, by_server, by_node, after_taking, Starts, server_starts, node_starts, Crashes, server_crashes, node_crashes, Resumes, server_resumes}
 use Rattle.nbt_world.specs.Inner.Kept.{AreRead}
-use Rattle.nbt_world.specs.Safety.{IsSafe, AreSafe, AreSafeWhileKept, AreSafeWhileTimely, IsInStep, LetsClocksDrift, MoveClocksAlike, NoClockStopped, AreKeptUntilClocksStop, RunsSafely}
+use Rattle.nbt_world.specs.Safety.{IsSafe, AreSafeWhileKept, AreSafeWhileTimely, RunsSafely}
+use Rattle.nbt_world.specs.Clocks.{AreSafe, IsInStep, LetsClocksDrift, MoveClocksAlike, NoClockStopped, AreKeptUntilClocksStop, RunsByClocks}
 use Rattle.nbt_world.proofs.Keeping.{addr_with, server_addr_with, read_with}
 use Rattle.nbt_world.proofs.Clock.{sees, read_on, goes_up}
 use Rattle.nbt_world.proofs.Exact.{Goes, Traced, traced_more, traced_first, Told, told_more, told_first, told_fresh, drift_bound, timely_bound}
@@ -276,18 +277,21 @@ along_next events k {old} {v = v} {worlds} {event} within at step timely safe is
     subst (λ (es : List Event). Along es old (worlds ++ v ∷ []) v) (sym (take_more events k event within))
     (subst (λ (x : Event). Along (take k events ++ x ∷ []) old (worlds ++ v ∷ []) v) at (along_more step timely safe is))
 
-pub runs_safely : {events : List Event} {old : WorldValue} {worlds : List WorldValue} {last : WorldValue} → Along events old worlds last → RunsSafely events old worlds last
-runs_safely is =
-    record {
-      safe_timely = is.safe_timely;
-      safe = is.safe;
-      told = λ config addrs fresh. told_fresh IsAllowed IsBounded (λ x. x.kept) drift_bound fresh fresh.kept is.traced is.told;
-      told_on = (is.told).told;
-      told_timely = λ config addrs fresh. told_fresh IsAllowedTimely IsTimely (λ x. x.timely) timely_bound fresh fresh.timely is.traced is.told_timely;
-      told_on_timely = (is.told_timely).told;
-      one_clock = λ on same one. (is.in_step on same one).0;
-      alike = λ on one. (is.alike on one).0;
-    }
+pub runs_safely : {events : List Event} {old : WorldValue} {worlds : List WorldValue} {last : WorldValue} → Along events old worlds last → RunsSafely old worlds last
+runs_safely is = record {
+  safe_timely = is.safe_timely;
+  safe = is.safe;
+  told = λ config addrs fresh. told_fresh IsAllowed IsBounded (λ x. x.kept) drift_bound fresh fresh.kept is.traced is.told;
+  told_timely = λ config addrs fresh. told_fresh IsAllowedTimely IsTimely (λ x. x.timely) timely_bound fresh fresh.timely is.traced is.told_timely;
+}
 
-pub runs_whole : (events : List Event) (k : ℕ) {old : WorldValue} {worlds : List WorldValue} {last : WorldValue} → length events ≤ k → Along (take k events) old worlds last → RunsSafely events old worlds last
-runs_whole events k {old} {worlds} {last} le is = runs_safely (subst (λ (es : List Event). Along es old worlds last) (take_all k events le) is)
+pub runs_by_clocks : {events : List Event} {old : WorldValue} {worlds : List WorldValue} {last : WorldValue} → Along events old worlds last → RunsByClocks events old worlds last
+runs_by_clocks is = record {
+  told_on = (is.told).told;
+  told_on_timely = (is.told_timely).told;
+  one_clock = λ on same one. (is.in_step on same one).0;
+  alike = λ on one. (is.alike on one).0;
+}
+
+pub along_whole : (events : List Event) (k : ℕ) {old : WorldValue} {worlds : List WorldValue} {last : WorldValue} → length events ≤ k → Along (take k events) old worlds last → Along events old worlds last
+along_whole events k {old} {worlds} {last} le is = subst (λ (es : List Event). Along es old worlds last) (take_all k events le) is

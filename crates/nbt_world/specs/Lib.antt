@@ -2,6 +2,7 @@ pub mod Drift
 pub mod World
 pub mod Step
 pub mod Safety
+pub mod Clocks
 pub mod Getting
 pub mod Users
 pub mod Shifted

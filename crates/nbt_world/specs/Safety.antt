@@ -1,17 +1,15 @@
 -- What the headline says: who holds a name in a world, when a world is safe, what a run is, and when its clocks keep the
 -- drift bound.
-use Rattle.std.specs.Prelude.{◌≡◌, ◌≢◌, ℕ, ◌<◌, ◌≤◌, ◌↔◌, IsTrue, List, [], ◌∷◌, slice_get, Option, Some, None, All}
+use Rattle.std.specs.Prelude.{◌≡◌, ◌≢◌, ℕ, ◌≤◌, ◌↔◌, IsTrue, List, [], ◌∷◌, slice_get, Option, Some, None, All}
 use Rattle.nbt_name.specs.declared.addr.Addr.{Addr}
 use Rattle.nbt_name.specs.declared.addr.Kind.{Kind}
 use Rattle.nbt_name.specs.declared.addr.Kind.TheVariants.{Group}
 use Rattle.nbt_name.specs.Wire.{NameValue}
-use Rattle.nbt_lease.specs.Config.{ConfigValue, last_moment}
+use Rattle.nbt_lease.specs.Config.{ConfigValue}
 use Rattle.nbt_node.specs.Node.{NodeValue, holds}
 use Rattle.nbt_world.specs.declared.event.Event.{Event}
 use Rattle.nbt_world.specs.declared.event.Outcome.{Outcome}
-use Rattle.nbt_world.specs.declared.event.Event.TheVariants.{Advance}
-use Rattle.nbt_world.specs.declared.clocks.Least.{Least}
-use Rattle.nbt_world.specs.Drift.{reading, IsBounded, IsTimely, least_of, IsAllowed, IsAllowedTimely}
+use Rattle.nbt_world.specs.Drift.{reading, IsBounded, IsTimely}
 use Rattle.nbt_world.specs.World.{WorldValue, IsEnd, node_of, IsFresh}
 use Rattle.nbt_world.specs.Step.{Step}
 
@@ -32,10 +30,6 @@ MayHold world i j name = (k l : Kind) → i ≢ j → holding world i name ≡ S
 abbrev pub IsSafe : WorldValue → Type 0
 IsSafe world = (name : NameValue) (i j : ℕ) → MayHold world i j name
 
--- all of them are
-abbrev pub AreSafe : List WorldValue → Type 0
-AreSafe worlds = All IsSafe worlds
-
 -- each of them up to which the readings kept the drift bound is
 abbrev pub AreSafeWhileKept : List WorldValue → Type 0
 AreSafeWhileKept worlds = All (λ world. IsTrue world.kept → IsSafe world) worlds
@@ -55,50 +49,14 @@ pub data Run : List Event → WorldValue → List WorldValue → WorldValue → 
 abbrev pub KeepDriftBound : List WorldValue → Type 0
 KeepDriftBound worlds = (i j : ℕ) (early late : WorldValue) → i ≤ j → slice_get worlds i ≡ Some early → slice_get worlds j ≡ Some late → (number : ℕ) → IsEnd late.ends number → IsBounded early.now late.now number
 
--- Each of these worlds keeps the bound to these least numbers.
-abbrev pub KeepBoundTo : List Least → List WorldValue → Type 0
-KeepBoundTo least worlds = (index : ℕ) (world : WorldValue) → slice_get worlds index ≡ Some world → (number : ℕ) → IsEnd world.ends number → IsAllowed (least_of least number) world.now number
-
 -- Between any two of them each end's clock was timely: none was too fast, and no node's too slow.
 abbrev pub AreTimely : List WorldValue → Type 0
 AreTimely worlds = (i j : ℕ) (early late : WorldValue) → i ≤ j → slice_get worlds i ≡ Some early → slice_get worlds j ≡ Some late → (number : ℕ) → IsEnd late.ends number → IsTimely early.now late.now number
 
--- Each of them is timely to these least numbers.
-abbrev pub AreTimelyTo : List Least → List WorldValue → Type 0
-AreTimelyTo least worlds = (index : ℕ) (world : WorldValue) → slice_get worlds index ≡ Some world → (number : ℕ) → IsEnd world.ends number → IsAllowedTimely (least_of least number) world.now number
-
--- all ends read the true clock
-abbrev pub IsInStep : WorldValue → Type 0
-IsInStep world = (number : ℕ) → IsEnd world.ends number → reading world.now number ≡ world.now.clock
-
--- the event may move the clocks apart
-abbrev pub LetsClocksDrift : Event → Type 0
-LetsClocksDrift (Advance ms readings) = Unit {0}
-LetsClocksDrift _ = ⊥
-
--- no event does: each one that moves the clocks moves all of them by the same
-abbrev pub MoveClocksAlike : List Event → Type 0
-MoveClocksAlike events = All (λ event. LetsClocksDrift event → ⊥) events
-
--- No clock has come to its last moment, at which it stops.
-abbrev pub NoClockStopped : WorldValue → Type 0
-NoClockStopped world = (world.now.clock < last_moment) × ((number : ℕ) → IsEnd world.ends number → reading world.now number < last_moment)
-
--- each of them in which no clock has stopped kept the bound, and is safe
-abbrev pub AreKeptUntilClocksStop : List WorldValue → Type 0
-AreKeptUntilClocksStop worlds = All (λ world. NoClockStopped world → IsTrue world.kept × IsSafe world) worlds
-
 -- What is promised of the worlds along a run: each up to which the readings were timely is safe, and so is each up to which they
--- kept the bound. From a new world, `kept` says exactly whether they kept it, and `timely` whether they were timely; from any world,
--- whether they did or were before, and do or are between any two of these and to the least numbers of before. Where no event moves
--- the clocks apart, all of them are safe if all ends read the true clock at first; and whatever they read, from a world that kept
--- the bound all keep it, and are safe, until a clock stops.
-pub record RunsSafely (events : List Event) (old : WorldValue) (worlds : List WorldValue) (new : WorldValue) : Type 0 where
+-- kept the bound. From a new world, `kept` says exactly whether they kept it, and `timely` whether they were timely.
+pub record RunsSafely (old : WorldValue) (worlds : List WorldValue) (new : WorldValue) : Type 0 where
   pub safe_timely : AreSafeWhileTimely worlds
   pub safe : AreSafeWhileKept worlds
   pub told : (config : ConfigValue) (addrs : List Addr) → IsFresh config addrs old → IsTrue new.kept ↔ KeepDriftBound worlds
-  pub told_on : IsTrue new.kept ↔ (IsTrue old.kept × KeepBoundTo old.least worlds × KeepDriftBound worlds)
   pub told_timely : (config : ConfigValue) (addrs : List Addr) → IsFresh config addrs old → IsTrue new.timely ↔ AreTimely worlds
-  pub told_on_timely : IsTrue new.timely ↔ (IsTrue old.timely × AreTimelyTo old.least worlds × AreTimely worlds)
-  pub one_clock : IsTrue old.kept → IsInStep old → MoveClocksAlike events → AreSafe worlds
-  pub alike : IsTrue old.kept → MoveClocksAlike events → AreKeptUntilClocksStop worlds

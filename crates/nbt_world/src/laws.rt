@@ -76,8 +76,8 @@ pub fn users_of_a_name_meet_its_holder()
     ensures lets_in { (world : WorldValue) (number : ℕ) (name : NameValue) (kind : Kind) → holding world number name ≡ Some kind → LetsCallIn world number name }
     ensures safe { (world : WorldValue) → IsSafe world → ServeUsersAsGroup world }
     ensures timely { (world : WorldValue) → Invariant world → IsTrue world.timely → ServeUsersAsGroup world }
-    ensures along { (events : List Event) (old new : WorldValue) (worlds : List WorldValue) → RunsSafely events old worlds new → ServeUsersWhileTimely worlds }
-    ensures along_kept { (events : List Event) (old new : WorldValue) (worlds : List WorldValue) → RunsSafely events old worlds new → ServeUsersWhileKept worlds }
+    ensures along { (old new : WorldValue) (worlds : List WorldValue) → RunsSafely old worlds new → ServeUsersWhileTimely worlds }
+    ensures along_kept { (old new : WorldValue) (worlds : List WorldValue) → RunsSafely old worlds new → ServeUsersWhileKept worlds }
 {
     nbt_session::laws::calls_go_to_held_names();
 }

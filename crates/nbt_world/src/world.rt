@@ -7,6 +7,7 @@ ghost use Rattle.nbt_world.specs.Drift.{reading as reading_of};
 ghost use Rattle.nbt_world.specs.World.{WorldValue, AreAddrs, IsEnd, IsFresh, addr_of, node_of, with_limit};
 ghost use Rattle.nbt_world.specs.Step.{Advances, Step, number_in, TakesNoMemory};
 ghost use Rattle.nbt_world.specs.Safety.{Run, holding, MayHold, IsSafe, RunsSafely};
+ghost use Rattle.nbt_world.specs.Clocks.{RunsByClocks};
 ghost use Rattle.nbt_world.specs.Getting.{CanGet, getting};
 ghost use Rattle.nbt_world.specs.Inner.Kept.{AreRead};
 ghost use Rattle.nbt_world.specs.Inner.Handing.{Origin, HandsOver};
@@ -296,8 +297,10 @@ impl World {
     /// to, which is no `Tick`, `Advance`, `Start`, `Crash` or `Resume`: the world is then as after those before it. In no world along
     /// the run up to which the readings were timely, or kept the drift bound, do two nodes hold one name, unless both as a group.
     pub fn run(&mut self, events: &[Event]) -> Result<(), (usize, OutOfMemory)>
-        ensures ran { OnOk result ((worlds : List WorldValue) × Run events.now self.old worlds self.new × RunsSafely events.now self.old worlds self.new) }
-        ensures stopped { IfErr result (λ stop. (stop.0 < length events.now) × (worlds : List WorldValue) × Run (take stop.0 events.now) self.old worlds self.new × RunsSafely (take stop.0 events.now) self.old worlds self.new) }
+        ensures ran { OnOk result ((worlds : List WorldValue) × Run events.now self.old worlds self.new
+            × RunsSafely self.old worlds self.new × RunsByClocks events.now self.old worlds self.new) }
+        ensures stopped { IfErr result (λ stop. (stop.0 < length events.now) × (worlds : List WorldValue) × Run (take stop.0 events.now) self.old worlds self.new
+            × RunsSafely self.old worlds self.new × RunsByClocks (take stop.0 events.now) self.old worlds self.new) }
         ensures memory { IfErr result (λ stop. IfSome (slice_get events.now stop.0) (λ event. ¬ TakesNoMemory event)) }
     {
         self.is_safe();

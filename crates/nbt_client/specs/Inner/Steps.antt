@@ -1,8 +1,8 @@
 -- A turn by what the code returns of it, and turns that have gone by: words of contracts within the crate.
 use Rattle.std.specs.Prelude.{◌≡◌, ℕ, Bool, true, List, length}
-use Rattle.nbt_name.specs.declared.addr.Addr.{Addr}
 use Rattle.nbt_node.specs.Node.{NodeValue}
 use Rattle.nbt_node.specs.Moves.{Told}
+use Rattle.nbt_port.specs.declared.port.Route.{Route}
 use Rattle.nbt_port.specs.PortCalls.{PortCall, came, Chain}
 use Rattle.nbt_client.specs.declared.lookup.Ending.TheVariants as e
 use Rattle.nbt_client.specs.declared.lookup_turn.Progress.{Progress}
@@ -22,7 +22,7 @@ pub record HeardIs {P C : Type 0} (does : P → PortCall → P → Type 0) (tell
   pub told : Told
   pub hears : Hears second s hearing told t
   pub ended_is : ended ≡ is_end told
-  pub by : is_end told ≡ true → (from : Addr) × (hearing ≡ came from octets)
+  pub by : is_end told ≡ true → (from : Route) × (hearing ≡ came from octets)
   pub port_did : does p hearing q
   pub clock_told : tells c second d
 

@@ -6,7 +6,7 @@ use Rattle.nbt_nbns.specs.Places.{FileValue}
 use Rattle.nbt_nbns.specs.Running.{Begins}
 use Rattle.nbt_nbns.specs.Watching.{Watching}
 use Rattle.nbt_nbns.specs.declared.journal.Journal.{Journal}
-use Rattle.nbt_nbns.specs.declared.running.NbnsArguments.{NbnsArguments}
+use Rattle.nbt_nbns.specs.declared.arguments.NbnsArguments.{NbnsArguments}
 use Rattle.nbt_nbns.specs.declared.starting.Started.{Started}
 
 -- what goes on of a server, with its port, and what was printed

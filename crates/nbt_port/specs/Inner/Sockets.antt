@@ -10,6 +10,7 @@ use Rattle.std.specs.declared.net.socket_addr.SocketAddr.{SocketAddr}
 use Rattle.std.specs.declared.net.socket_addr.SocketAddr.TheVariants.{V4, V6}
 use Rattle.nbt_name.specs.declared.addr.Addr.{Addr}
 use Rattle.nbt_port.specs.declared.port.Device.{Device}
+use Rattle.nbt_port.specs.declared.port.Route.{Route}
 
 -- nothing came in time
 abbrev pub IsNothing : ErrorKind → Type 0
@@ -28,24 +29,24 @@ HasNoWay kind.NetworkUnreachable = Unit {0}
 HasNoWay kind.ConnectionRefused = Unit {0}
 HasNoWay _ = ⊥
 
--- the address of a sender
-abbrev pub IsSender : SocketAddr → Option Addr → Type 0
-IsSender (V4 from) (Some addr) = (addr.ip ≡ ipv4_bits (v4_ip from)) × (addr.port ≡ v4_port from)
-IsSender (V4 from) None = ⊥
-IsSender (V6 from) addr = addr ≡ None
+-- the route of a datagram that came at a socket, from a sender
+abbrev pub IsRoute : SocketAddr → (local : Option Addr) → Option Route → Type 0
+IsRoute (V4 from) local (Some route) = (route.peer.ip ≡ ipv4_bits (v4_ip from)) × (route.peer.port ≡ v4_port from) × (route.local ≡ local)
+IsRoute (V4 from) local None = ⊥
+IsRoute (V6 from) local route = route ≡ None
 
 -- the octets of a datagram from a sender, or none
 abbrev pub octets_from : SocketAddr → List ℕ → List ℕ
 octets_from (V4 from) octets = octets
 octets_from (V6 from) octets = []
 
--- What a receive hands out of an answer: its sender and as many octets of the buffer as it says; nothing; or it fails, at
+-- What a receive hands out of an answer: its route and as many octets of the buffer as it says; nothing; or it fails, at
 -- every other error.
-abbrev pub Received : Result (ℕ × SocketAddr) Error → (buffer : List ℕ) → Result (Option Addr) Device → (octets : List ℕ) → Type 0
-Received (Ok (count, from)) buffer (Ok sender) octets = IsSender from sender × (octets ≡ octets_from from (take count buffer))
-Received (Ok (count, from)) buffer (Err failure) octets = ⊥
-Received (Err error) buffer (Ok sender) octets = IsNothing (error_kind error) × (sender ≡ None) × (octets ≡ [])
-Received (Err error) buffer (Err failure) octets = (¬ IsNothing (error_kind error)) × (octets ≡ [])
+abbrev pub Received : Result (ℕ × SocketAddr) Error → (local : Option Addr) → (buffer : List ℕ) → Result (Option Route) Device → (octets : List ℕ) → Type 0
+Received (Ok (count, from)) local buffer (Ok route) octets = IsRoute from local route × (octets ≡ octets_from from (take count buffer))
+Received (Ok (count, from)) local buffer (Err failure) octets = ⊥
+Received (Err error) local buffer (Ok route) octets = IsNothing (error_kind error) × (route ≡ None) × (octets ≡ [])
+Received (Err error) local buffer (Err failure) octets = (¬ IsNothing (error_kind error)) × (octets ≡ [])
 
 -- What a send comes to: it fails at every error but those of a datagram without a way, which is lost, where the port isn't strict.
 abbrev pub Sent : {A : Type 0} → (strict : Bool) → Result ℕ Error → Result A Device → Type 0

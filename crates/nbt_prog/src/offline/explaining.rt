@@ -1,9 +1,9 @@
 //! The command `show` with `--explain`: what it prints without it, and then the same in words.
 
-ghost use Rattle.std.specs.Prelude.{◌≡◌, ◌++◌, ℕ, List, IfOk, OnOk};
+ghost use Rattle.std.specs.Prelude.{IfOk};
 ghost use Rattle.std.specs.String.{string_bytes};
 ghost use Rattle.nbt_prog.specs.Printed.{is_done};
-ghost use Rattle.nbt_prog.specs.Showing.{Explains, ShowsAndExplains, ExplainsHex};
+ghost use Rattle.nbt_prog.specs.Showing.{ShowsAndExplains, ExplainsHex};
 ghost use Rattle.nbt_prog.specs.Texts.{StandsFor};
 
 use crate::offline::failure::Failure;
@@ -12,7 +12,7 @@ use crate::offline::printed::Printed;
 use crate::offline::reason;
 use crate::offline::showing::{Service, service_of, show_octets};
 use crate::offline::texts::digits_of;
-use nbt_explain::{explain_dgram, explain_packet, explain_session};
+use nbt_show::{explain_dgram, explain_packet, explain_session};
 use std::alloc::{AllocError, Global};
 use std::io::{Read, Write};
 
@@ -58,17 +58,11 @@ fn explain_octets(alloc: Global, service: Service, octets: &[u8]) -> Result<Prin
         ShowsAndExplains service octets.now (is_done printed.ending) (string_bytes printed.text)) }
 {
     let mut printed = show_octets(alloc, service, octets)?;
-    write_explained(service, octets, &mut printed.text)?;
+    let explained = match service {
+        Service::Name => explain_packet(alloc, octets)?,
+        Service::Dgram => explain_dgram(alloc, octets)?,
+        Service::Session => explain_session(alloc, octets)?,
+    };
+    printed.text.push_str(explained.as_str())?;
     Ok(printed)
-}
-
-/// Appends what explains the octets of a service.
-fn write_explained(service: Service, octets: &[u8], out: &mut String) -> Result<(), AllocError>
-    ensures { OnOk result ((text : List ℕ) × Explains service octets.now text × (string_bytes out.new ≡ string_bytes out.old ++ text)) }
-{
-    match service {
-        Service::Name => explain_packet(octets, out),
-        Service::Dgram => explain_dgram(octets, out),
-        Service::Session => explain_session(octets, out),
-    }
 }

@@ -9,8 +9,8 @@ ghost use Rattle.nbt_prog.specs.Texts.{IsAddress, IsHexadecimal, SpellsDigits, A
 use crate::offline::failure::Failure;
 use crate::offline::reason;
 use crate::offline::reason::reporting;
-use nbt_explain::read_digits;
 use nbt_name::Addr;
+use nbt_show::read_digits;
 use nbt_text::parse_address;
 use std::alloc::Global;
 use std::io::Write;

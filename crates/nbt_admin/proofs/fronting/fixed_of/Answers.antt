@@ -1,6 +1,6 @@
 use Rattle.std.proofs.Common.{inr, subst}
 use Rattle.nbt_front.specs.Files.{FileFails}
-use Rattle.nbt_admin.proofs.Networks.{fixed_fails}
+use Rattle.nbt_admin.proofs.Fixed.{fixed_fails}
 use Rattle.nbt_admin.proofs.fronting.fixed_of.Goals as goal
 
 pub returns-in-Err-Line-clause-failure : goal.returns-in-Err-Line-clause-failure

@@ -1,18 +1,32 @@
-use Rattle.std.proofs.Common.{◌≤◌, arith}
-use Rattle.std.proofs.lemmas.Result.{err_from_is_err_and}
-use Rattle.nbt_admin.specs.Arguments.{count_of}
-use Rattle.nbt_admin.proofs.Wanting.{names_fail, groups_fail}
+use Rattle.std.proofs.Common.{arith, inl, inr, subst, Ok, Err}
+use Rattle.std.proofs.lemmas.Result.{err_from_is_err_and, IfErr-weaker}
+use Rattle.nbt_name.specs.declared.addr.Kind.TheVariants.{Unique, Group}
+use Rattle.nbt_admin.specs.Hosting.{ReadsWant}
+use Rattle.nbt_admin.specs.Reading.{Each}
+use Rattle.nbt_admin.proofs.Each.{from_none}
 use Rattle.nbt_admin.proofs.hosting.wants_of.Goals as goal
 
-pub returns-in_err-add_wants-clause-failure : goal.returns-in_err-add_wants-clause-failure
-returns-in_err-add_wants-clause-failure c =
+pub returns-in_err-alone-clause-failure : goal.returns-in_err-alone-clause-failure
+returns-in_err-alone-clause-failure c =
     let p = err_from_is_err_and c.from_residual.result c.from_residual.ensures.1 in
-    let few : count_of c.args.texts.now ≤ 14 = omega arith in
-    rw (p.1, p.2) (names_fail c.args.texts.now c.as_slice-names.result.now c.new-wants.result.items _ c.as_slice-names.ensures.value c.new-wants.ensures.items few c.in_err-add_wants.ensures.failure)
+    rw (p.1, p.2) (inr (inr (tt, (omega arith, inr (inl (from_none (ReadsWant c.args.texts.now.exact c.args.texts.now.scope.now Unique) c.new.result.items c.as_slice.result.now c.args.texts.now.names.items (Err c.in_err-alone.field-0.0) c.new.ensures.items c.as_slice.ensures.value c.in_err-alone.ensures.failure))))))
 
-pub returns-in_err-add_wants-2-clause-failure : goal.returns-in_err-add_wants-2-clause-failure
-returns-in_err-add_wants-2-clause-failure c =
-    let p = err_from_is_err_and c.from_residual-in_err-add_wants-2.result c.from_residual-in_err-add_wants-2.ensures.1 in
-    let few : count_of c.args.texts.now ≤ 14 = omega arith in
-    let wanted = c.in_ok-add_wants.ensures.wants in
-    rw (p.1, p.2) (groups_fail c.args.texts.now c.as_slice-names.result.now c.as_slice-groups.result.now c.new-wants.result.items wanted.0 _ _ c.as_slice-names.ensures.value c.as_slice-groups.ensures.value c.new-wants.ensures.items wanted.2 few wanted.1 c.in_err-add_wants-2.ensures.failure)
+pub returns-clause-failure : goal.returns-clause-failure
+returns-clause-failure c =
+    let texts = c.args.texts.now in
+    let alone = c.in_ok-alone.alone.items in
+    IfErr-weaker c.read_each-2.result _ _
+    (λ failure fails. inr (inr (
+      tt,
+      (
+        omega arith,
+        inr (inr (
+          alone,
+          (
+            from_none (ReadsWant texts.exact texts.scope.now Unique) c.new.result.items c.as_slice.result.now texts.names.items (Ok alone) c.new.ensures.items c.as_slice.ensures.value c.in_ok-alone.ensures.read,
+            subst (λ groups. Each (ReadsWant texts.exact texts.scope.now Group) alone groups (Err failure)) c.as_slice-2.ensures.value fails,
+          ),
+        )),
+      ),
+    )))
+    c.read_each-2.ensures.failure

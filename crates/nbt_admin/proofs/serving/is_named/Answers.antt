@@ -2,7 +2,7 @@ use Rattle.std.proofs.Common.{◌≡◌, ◌∙◌, ℕ, length, inr, ap, true, 
 use Rattle.std.specs.Prelude.{Some, None, ◌==◌}
 use Rattle.std.proofs.lemmas.Slice.Eq.{ends_is, strip_suffix_is}
 use Rattle.std.proofs.lemmas.Bool.Decides.{Decides-eqb}
-use Rattle.nbt_admin.specs.Files.{slash}
+use Rattle.nbt_admin.specs.Serving.{slash}
 use Rattle.nbt_admin.proofs.Named.{before_name, ends_in_slash}
 use Rattle.nbt_admin.proofs.serving.is_named.Goals as goal
 

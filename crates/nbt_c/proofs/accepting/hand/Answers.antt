@@ -1,8 +1,6 @@
-use Rattle.std.proofs.Common.{refl, subst}
+use Rattle.nbt_c.proofs.Common.{refl, subst, AcceptsFor, above, given}
 use Rattle.nbt_dgram.specs.Accepting.{nothing, accept_of, Accepts}
-use Rattle.nbt_c.specs.Datagrams.{AcceptsFor}
 use Rattle.nbt_c.specs.Datagrams as is
-use Rattle.nbt_c.proofs.Calls.{above, given}
 use Rattle.nbt_c.proofs.accepting.hand.Goals as goal
 
 pub returns-in_default : goal.returns-in_default

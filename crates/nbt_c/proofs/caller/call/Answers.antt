@@ -1,5 +1,5 @@
+use Rattle.nbt_c.proofs.Common.{event_of}
 use Rattle.nbt_session.specs.Caller.{answer_of, nothing}
-use Rattle.nbt_session.specs.Event.{event_of}
 use Rattle.nbt_c.specs.Calling as is
 use Rattle.nbt_c.proofs.Calling.{sends_requests}
 use Rattle.nbt_c.proofs.caller.call.Goals as goal

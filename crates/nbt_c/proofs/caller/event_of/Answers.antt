@@ -1,5 +1,4 @@
-use Rattle.std.proofs.Common.{arith}
-use Rattle.nbt_session.specs.Packet.{packet_of}
+use Rattle.nbt_c.proofs.Common.{arith, packet_of}
 use Rattle.nbt_c.specs.Calling as is
 use Rattle.nbt_c.proofs.caller.event_of.Goals as goal
 

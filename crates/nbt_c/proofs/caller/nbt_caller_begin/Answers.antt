@@ -1,13 +1,7 @@
-use Rattle.std.proofs.Common.{◌≡◌, ℕ, Option, Some, sym, ap, subst, ◌∙◌}
-use Rattle.nbt_name.specs.declared.addr.Addr.{Addr}
-use Rattle.nbt_name.specs.Wire.{NameValue}
+use Rattle.nbt_c.proofs.Common.{◌≡◌, ℕ, Option, Some, sym, ap, subst, ◌∙◌, Addr, NameValue, CallerValue, CName, addr_of, none_of}
 use Rattle.nbt_session.specs.declared.caller.CallerState.TheVariants.{Connecting}
-use Rattle.nbt_session.specs.Caller.{CallerValue}
-use Rattle.nbt_c.specs.declared.name.CName.{CName}
 use Rattle.nbt_c.specs.Calling as is
 use Rattle.nbt_c.specs.Calling.{Begins}
-use Rattle.nbt_c.specs.Ends.{addr_of}
-use Rattle.nbt_c.proofs.Calls.{none_of}
 use Rattle.nbt_c.proofs.caller.nbt_caller_begin.Goals as goal
 
 abbrev begun : (called calling : NameValue) (to : Addr) → CallerValue

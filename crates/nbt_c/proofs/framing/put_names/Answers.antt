@@ -1,5 +1,4 @@
-use Rattle.std.proofs.Common.{◌≡◌, ℕ, List, ◌++◌, ap, ◌∙◌}
-use Rattle.nbt_name.specs.Wire.{wire}
+use Rattle.nbt_c.proofs.Common.{◌≡◌, ℕ, List, ◌++◌, ap, ◌∙◌, wire}
 use Rattle.nbt_c.proofs.Framed.{request_is}
 use Rattle.nbt_c.proofs.framing.put_names.Goals as goal
 

@@ -1,6 +1,5 @@
-use Rattle.std.proofs.Common.{refl}
-use Rattle.nbt_session.specs.Packet.{packet_of}
-use Rattle.nbt_c.specs.Sessions.{WritesPacket, is_written, is_refused, has_message}
+use Rattle.nbt_c.proofs.Common.{refl, packet_of, WritesPacket, is_written, has_message}
+use Rattle.nbt_c.specs.Sessions.{is_refused}
 use Rattle.nbt_c.proofs.Framed.{given_by, no_message}
 use Rattle.nbt_c.proofs.framing.write.Goals as goal
 

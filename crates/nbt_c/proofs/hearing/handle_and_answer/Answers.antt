@@ -1,7 +1,4 @@
-use Rattle.nbt_packet.specs.Message.{message_if}
-use Rattle.nbt_node.specs.Moves.{told_of}
-use Rattle.nbt_node.proofs.Reading.{says_read}
-use Rattle.nbt_c.proofs.Calls.{at_least}
+use Rattle.nbt_c.proofs.Common.{message_if, told_of, says_read, at_least}
 use Rattle.nbt_c.proofs.Heard.{heard_as}
 use Rattle.nbt_c.proofs.hearing.handle_and_answer.Goals as goal
 

@@ -1,16 +1,7 @@
-use Rattle.std.proofs.Common.{◌≡◌, ◌↔◌, ◌<◌, ℕ, List, [], false, Option, Some, None, Result, Ok, Err, IfOk, IsErr, refl, sym, true≢false}
-use Rattle.nbt_packet.specs.Message.{MessageValue, message_if, registration, overwrite, refresh, release, query, status_request, registered, released, found, not_found, status, wait}
+use Rattle.nbt_c.proofs.Common.{◌≡◌, ◌↔◌, ◌<◌, ℕ, List, [], false, Option, Some, None, Result, Ok, Err, IfOk, IsErr, refl, sym, true≢false, MessageValue, message_if, registration, overwrite, refresh, release, query, status_request, registered, released, found, not_found, status, wait, NodeValue, Told, told_of, replied, is_granted, is_renewed, is_lost, is_freed, waits, finds, finds_none, lists, Handles, Says, own_reply, sent_back, says_read, octets_back, reported, Hears, is_request, Puts, at_least}
 use Rattle.nbt_node.specs.declared.event.Event.{Event}
 use Rattle.nbt_node.specs.declared.fault.ClockBack.{ClockBack}
-use Rattle.nbt_node.specs.Node.{NodeValue}
-use Rattle.nbt_node.specs.Moves.{Told, told_of, nothing, replied, is_granted, is_renewed, is_refused, is_lost, is_freed, waits, finds, finds_none, lists}
-use Rattle.nbt_node.specs.Datagrams.{Handles, Says}
-use Rattle.nbt_node.specs.Answering.{own_reply, sent_back}
-use Rattle.nbt_node.proofs.Reading.{says_read}
-use Rattle.nbt_c.specs.Events.{octets_back, reported}
-use Rattle.nbt_c.specs.Nodes.{Hears, is_request}
-use Rattle.nbt_c.specs.Results.{Puts}
-use Rattle.nbt_c.proofs.Calls.{at_least}
+use Rattle.nbt_node.specs.Moves.{nothing, is_refused}
 use Rattle.nbt_c.proofs.Heard.{heard_as}
 use Rattle.nbt_c.proofs.hearing.hear.Goals as goal
 

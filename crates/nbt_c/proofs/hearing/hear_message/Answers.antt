@@ -1,9 +1,6 @@
-use Rattle.std.proofs.Common.{◌<◌, ℕ, List, [], ◌∷◌, None, refl, subst}
+use Rattle.nbt_c.proofs.Common.{◌<◌, ℕ, List, [], ◌∷◌, None, refl, subst, Hears, PutsMost, above, given}
 use Rattle.nbt_node.specs.Moves.{nothing}
 use Rattle.nbt_c.specs.Nodes as is
-use Rattle.nbt_c.specs.Nodes.{Hears}
-use Rattle.nbt_c.specs.Results.{PutsMost}
-use Rattle.nbt_c.proofs.Calls.{above, given}
 use Rattle.nbt_c.proofs.hearing.hear_message.Goals as goal
 
 no_octets : (room : List ℕ) → PutsMost [] room room

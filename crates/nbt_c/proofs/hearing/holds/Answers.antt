@@ -1,9 +1,5 @@
-use Rattle.std.proofs.Common.{◌≡◌, None, refl, ap, ◌∙◌}
-use Rattle.nbt_node.specs.Node.{holds}
-use Rattle.nbt_c.specs.Names.{name_in}
+use Rattle.nbt_c.proofs.Common.{◌≡◌, None, refl, ap, ◌∙◌, holds, name_in, held_number, above, moved}
 use Rattle.nbt_c.specs.Nodes as is
-use Rattle.nbt_c.specs.Nodes.{held_number}
-use Rattle.nbt_c.proofs.Calls.{above, moved}
 use Rattle.nbt_c.proofs.hearing.holds.Goals as goal
 
 pub returns-in_default : goal.returns-in_default

@@ -1,8 +1,5 @@
-use Rattle.std.proofs.Common.{◌<◌, ◌≤◌, Some, None, refl, subst}
-use Rattle.nbt_node.specs.Calls.{Polls}
+use Rattle.nbt_c.proofs.Common.{◌<◌, ◌≤◌, Some, None, refl, subst, Polls, PollsNode, above, at_least, given}
 use Rattle.nbt_c.specs.Nodes as is
-use Rattle.nbt_c.specs.Nodes.{PollsNode}
-use Rattle.nbt_c.proofs.Calls.{above, at_least, given}
 use Rattle.nbt_c.proofs.hearing.poll.Goals as goal
 
 pub returns-in_default : goal.returns-in_default

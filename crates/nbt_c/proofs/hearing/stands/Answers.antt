@@ -1,8 +1,6 @@
-use Rattle.std.proofs.Common.{◌≡◌, Some, None, refl, sym, ◌∙◌}
+use Rattle.nbt_c.proofs.Common.{◌≡◌, Some, None, refl, sym, ◌∙◌, Stands, above, moved}
 use Rattle.nbt_node.specs.Standing.{standing}
 use Rattle.nbt_c.specs.Nodes as is
-use Rattle.nbt_c.specs.Nodes.{Stands}
-use Rattle.nbt_c.proofs.Calls.{above, moved}
 use Rattle.nbt_c.proofs.hearing.stands.Goals as goal
 
 pub returns-in_default : goal.returns-in_default

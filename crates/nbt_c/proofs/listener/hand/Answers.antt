@@ -1,9 +1,6 @@
-use Rattle.std.proofs.Common.{ℕ, refl, subst}
-use Rattle.nbt_node.specs.Node.{holds}
-use Rattle.nbt_session.specs.Event.{event_of}
-use Rattle.nbt_session.specs.Listener.{ListenerMoves, answer_of, nothing}
+use Rattle.nbt_c.proofs.Common.{ℕ, refl, subst, holds, event_of, ListenerMoves, above}
+use Rattle.nbt_session.specs.Listener.{answer_of, nothing}
 use Rattle.nbt_c.specs.Listening as is
-use Rattle.nbt_c.proofs.Calls.{above}
 use Rattle.nbt_c.proofs.Listened.{IsNoMessage, slot_sends}
 use Rattle.nbt_c.proofs.listener.hand.Goals as goal
 

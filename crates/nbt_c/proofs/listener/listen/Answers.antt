@@ -1,7 +1,5 @@
-use Rattle.std.proofs.Common.{[], ◌∷◌, ◌++◌, true≢false, refl, sym, ap, subst, ◌∙◌}
-use Rattle.nbt_session.specs.declared.listener.Entry.{Entry}
+use Rattle.nbt_c.proofs.Common.{[], ◌∷◌, ◌++◌, true≢false, refl, sym, ap, subst, ◌∙◌, Entry, ListensTo}
 use Rattle.nbt_c.specs.Listening as is
-use Rattle.nbt_c.specs.Listening.{ListensTo}
 use Rattle.nbt_c.proofs.listener.listen.Goals as goal
 
 pub returns-in_default : goal.returns-in_default

@@ -1,7 +1,5 @@
-use Rattle.std.proofs.Common.{Some, sym, ap, subst, ◌∙◌}
+use Rattle.nbt_c.proofs.Common.{Some, sym, ap, subst, ◌∙◌, StartsListener, none_of}
 use Rattle.nbt_c.specs.Listening as is
-use Rattle.nbt_c.specs.Listening.{StartsListener}
-use Rattle.nbt_c.proofs.Calls.{none_of}
 use Rattle.nbt_c.proofs.listener.nbt_listener_start.Goals as goal
 
 pub returns-then-most-gt-SLOTS : goal.returns-then-most-gt-SLOTS

@@ -1,8 +1,5 @@
-use Rattle.std.proofs.Common.{sym, subst}
-use Rattle.nbt_name.specs.Wire.{NameValue}
-use Rattle.nbt_session.specs.Listener.{Without}
+use Rattle.nbt_c.proofs.Common.{sym, subst, NameValue, Without, StopsListening}
 use Rattle.nbt_c.specs.Listening as is
-use Rattle.nbt_c.specs.Listening.{StopsListening}
 use Rattle.nbt_c.proofs.listener.unlisten.Goals as goal
 
 pub returns-in_default : goal.returns-in_default

@@ -1,5 +1,4 @@
-use Rattle.std.proofs.Common.{ℕ, List, ◌++◌, length, drop, replicate, ap, ◌∙◌}
-use Rattle.std.proofs.lemmas.List.{drop-replicate}
+use Rattle.nbt_c.proofs.Common.{ℕ, List, ◌++◌, length, drop, replicate, ap, ◌∙◌, drop-replicate}
 use Rattle.nbt_c.proofs.name.fill.Goals as goal
 
 pub returns : goal.returns

@@ -1,12 +1,7 @@
-use Rattle.std.proofs.Common.{◌≡◌, ◌↔◌, ℕ, ◌<◌, ◌≤◌, List, length, Result, Err, arith, true≢false, refl, sym, ap, subst, ◌∙◌}
+use Rattle.nbt_c.proofs.Common.{◌≡◌, ◌↔◌, ℕ, ◌<◌, ◌≤◌, List, length, Result, Err, arith, true≢false, refl, sym, ap, subst, ◌∙◌, NameRefusal, Star, ScopeLong, BadLabel, refusal_number, IsScope, CName, stored, MakesAny}
 use Rattle.std.proofs.Math.Nat.{lt_of_not-le}
 use Rattle.nbt_name.specs.declared.name.Name.{Name}
-use Rattle.nbt_name.specs.declared.fault.NameRefusal.{NameRefusal}
-use Rattle.nbt_name.specs.declared.fault.NameRefusal.TheVariants.{Star, ScopeLong, BadLabel}
-use Rattle.nbt_name.specs.Numbers.{refusal_number}
-use Rattle.nbt_name.specs.Scope.{IsScope}
-use Rattle.nbt_c.specs.declared.name.CName.{CName}
-use Rattle.nbt_c.specs.Names.{stored, MakesAny, made, long, bad}
+use Rattle.nbt_c.specs.Names.{made, long, bad}
 use Rattle.nbt_c.proofs.naming.nbt_name_any.Goals as goal
 
 abbrev Same : NameRefusal → NameRefusal → Type 0

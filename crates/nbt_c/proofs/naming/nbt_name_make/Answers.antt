@@ -1,10 +1,5 @@
-use Rattle.std.proofs.Common.{◌≡◌, ◌≢◌, ℕ, ◌<◌, ◌≤◌, List, length, slice_index, Err, refl, sym, ap, subst, ◌∙◌}
-use Rattle.nbt_name.specs.declared.fault.NameRefusal.{NameRefusal}
-use Rattle.nbt_name.specs.declared.fault.NameRefusal.TheVariants.{Star, ScopeLong, BadLabel}
-use Rattle.nbt_name.specs.Numbers.{refusal_number}
-use Rattle.nbt_name.specs.Scope.{IsScope}
-use Rattle.nbt_c.specs.declared.name.CName.{CName}
-use Rattle.nbt_c.specs.Names.{stored, Makes, made, star, long, bad}
+use Rattle.nbt_c.proofs.Common.{◌≡◌, ◌≢◌, ℕ, ◌<◌, ◌≤◌, List, length, slice_index, Err, refl, sym, ap, subst, ◌∙◌, NameRefusal, Star, ScopeLong, BadLabel, refusal_number, IsScope, CName, stored, Makes}
+use Rattle.nbt_c.specs.Names.{made, star, long, bad}
 use Rattle.nbt_c.proofs.naming.nbt_name_make.Goals as goal
 
 module _ (octets scope : List ℕ) (before : CName) where

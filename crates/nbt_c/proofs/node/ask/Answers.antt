@@ -1,9 +1,5 @@
-use Rattle.std.proofs.Common.{◌≡◌, Some, None, refl, sym, ◌∙◌}
-use Rattle.nbt_node.specs.Calls.{ask_refusal, Sends}
-use Rattle.nbt_node.specs.Moves.{ask}
-use Rattle.nbt_c.specs.Nodes.{Asks}
+use Rattle.nbt_c.proofs.Common.{◌≡◌, Some, None, refl, sym, ◌∙◌, ask_refusal, Sends, ask, Asks, above, moved, given}
 use Rattle.nbt_c.specs.Nodes as is
-use Rattle.nbt_c.proofs.Calls.{above, moved, given}
 use Rattle.nbt_c.proofs.node.ask.Goals as goal
 
 pub returns-in_default : goal.returns-in_default

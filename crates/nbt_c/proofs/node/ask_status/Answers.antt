@@ -1,9 +1,6 @@
-use Rattle.std.proofs.Common.{◌≡◌, Some, None, refl, sym}
-use Rattle.nbt_node.specs.Calls.{status_refusal, Opens}
+use Rattle.nbt_c.proofs.Common.{◌≡◌, Some, None, refl, sym, status_refusal, Opens, AsksStatus, above, moved, given}
 use Rattle.nbt_node.specs.declared.lookup.Wanted.TheVariants.{Names}
-use Rattle.nbt_c.specs.Nodes.{AsksStatus}
 use Rattle.nbt_c.specs.Nodes as is
-use Rattle.nbt_c.proofs.Calls.{above, moved, given}
 use Rattle.nbt_c.proofs.node.ask_status.Goals as goal
 
 pub returns-in_default : goal.returns-in_default

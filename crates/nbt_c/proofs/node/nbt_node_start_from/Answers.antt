@@ -1,8 +1,5 @@
-use Rattle.std.proofs.Common.{Err, refl, ap, ◌∙◌}
-use Rattle.nbt_node.specs.Calls.{started_from}
-use Rattle.nbt_c.specs.Ends.{starts, has_no_moment}
+use Rattle.nbt_c.proofs.Common.{Err, refl, ap, ◌∙◌, started_from, starts, has_no_moment, above, none_of, answers, refused}
 use Rattle.nbt_c.specs.Sizes.{node_slots}
-use Rattle.nbt_c.proofs.Calls.{above, none_of, answers, refused}
 use Rattle.nbt_c.proofs.node.nbt_node_start_from.Goals as goal
 
 pub returns-in-Err : goal.returns-in-Err

@@ -1,9 +1,5 @@
-use Rattle.std.proofs.Common.{◌≡◌, Some, None, refl, sym}
-use Rattle.nbt_node.specs.Calls.{release_refusal, Sends}
-use Rattle.nbt_node.specs.Moves.{give_back}
-use Rattle.nbt_c.specs.Nodes.{GivesBack}
+use Rattle.nbt_c.proofs.Common.{◌≡◌, Some, None, refl, sym, release_refusal, Sends, give_back, GivesBack, above, moved, given}
 use Rattle.nbt_c.specs.Nodes as is
-use Rattle.nbt_c.proofs.Calls.{above, moved, given}
 use Rattle.nbt_c.proofs.node.release.Goals as goal
 
 pub returns-in_default : goal.returns-in_default

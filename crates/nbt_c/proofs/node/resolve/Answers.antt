@@ -1,9 +1,5 @@
-use Rattle.std.proofs.Common.{◌≡◌, Some, None, refl, sym}
-use Rattle.nbt_node.specs.Calls.{resolve_refusal, Opens}
-use Rattle.nbt_node.specs.declared.lookup.Wanted.TheVariants.{Entries}
-use Rattle.nbt_c.specs.Nodes.{Resolves}
+use Rattle.nbt_c.proofs.Common.{◌≡◌, Some, None, refl, sym, resolve_refusal, Opens, Entries, Resolves, above, moved, given}
 use Rattle.nbt_c.specs.Nodes as is
-use Rattle.nbt_c.proofs.Calls.{above, moved, given}
 use Rattle.nbt_c.proofs.node.resolve.Goals as goal
 
 pub returns-in_default : goal.returns-in_default

@@ -1,9 +1,8 @@
-use Rattle.std.proofs.Common.{ℕ, Err, sym, subst}
+use Rattle.nbt_c.proofs.Common.{ℕ, Err, sym, subst, TakesFor}
 use Rattle.nbt_session.specs.declared.fault.StreamFault.{StreamFault}
 use Rattle.nbt_session.specs.Parts.{TakesPart, part_if}
 use Rattle.nbt_c.specs.declared.pieces.CPart.{CPart}
 use Rattle.nbt_c.specs.Sessions as is
-use Rattle.nbt_c.specs.Sessions.{TakesFor}
 use Rattle.nbt_c.proofs.pieces.take.Goals as goal
 
 pub returns-in-Ok : goal.returns-in-Ok

@@ -1,8 +1,4 @@
-use Rattle.std.proofs.Common.{ℕ, Err, refl, ap, subst}
-use Rattle.nbt_lease.specs.Config.{ConfigValue}
-use Rattle.nbt_server.specs.Calls.{ServerStarts}
-use Rattle.nbt_c.specs.Ends.{starts, has_no_moment}
-use Rattle.nbt_c.proofs.Calls.{above, none_of, answers, refused}
+use Rattle.nbt_c.proofs.Common.{ℕ, Err, refl, ap, subst, ConfigValue, ServerStarts, starts, has_no_moment, above, none_of, answers, refused}
 use Rattle.nbt_c.proofs.serving.nbt_server_start.Goals as goal
 
 pub returns-in-Err : goal.returns-in-Err

@@ -1,10 +1,5 @@
-use Rattle.std.proofs.Common.{◌≡◌, ◌<◌, ◌≤◌, ℕ, List, Some, None, refl, sym, ap, subst, ◌∙◌}
-use Rattle.std.specs.Prelude.{slice_get}
-use Rattle.nbt_lease.specs.declared.lease.Lease.{Lease}
-use Rattle.nbt_lease.specs.Lease.{TableValue, leases_at}
-use Rattle.nbt_c.specs.Serving.{TellsLease}
+use Rattle.nbt_c.proofs.Common.{◌≡◌, ◌<◌, ◌≤◌, ℕ, List, Some, None, refl, sym, ap, subst, ◌∙◌, slice_get, Lease, TableValue, leases_at, TellsLease, above, moved}
 use Rattle.nbt_c.specs.Serving as is
-use Rattle.nbt_c.proofs.Calls.{above, moved}
 use Rattle.nbt_c.proofs.serving.report_lease.Goals as goal
 
 pub returns-in_default : goal.returns-in_default

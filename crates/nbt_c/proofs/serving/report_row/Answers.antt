@@ -1,10 +1,4 @@
-use Rattle.std.proofs.Common.{◌≡◌, List, [], Some, None, length, refl, sym, ap, subst, ◌∙◌, ◌++◌}
-use Rattle.std.specs.Prelude.{slice_get}
-use Rattle.std.proofs.lemmas.Option.{slice_get_past, slice_get_read}
-use Rattle.nbt_name.specs.Wire.{NameValue}
-use Rattle.nbt_lease.specs.declared.lease.Lease.{Lease}
-use Rattle.nbt_lease.specs.Lease.{TableValue}
-use Rattle.nbt_c.specs.Serving.{TellsRow}
+use Rattle.nbt_c.proofs.Common.{◌≡◌, List, [], Some, None, length, refl, sym, ap, subst, ◌∙◌, ◌++◌, slice_get, slice_get_past, slice_get_read, NameValue, Lease, TableValue, TellsRow}
 use Rattle.nbt_c.specs.Serving as is
 use Rattle.nbt_c.proofs.serving.report_row.Goals as goal
 

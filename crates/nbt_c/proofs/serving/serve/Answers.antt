@@ -1,14 +1,9 @@
-use Rattle.std.proofs.Common.{◌≡◌, ◌<◌, ◌≤◌, ℕ, List, [], Err, refl, ap, subst}
-use Rattle.nbt_name.specs.declared.addr.Addr.{Addr}
-use Rattle.nbt_lease.specs.Config.{last_moment}
+use Rattle.nbt_c.proofs.Common.{◌≡◌, ◌<◌, ◌≤◌, ℕ, List, [], Err, refl, ap, subst, Addr, last_moment, ServerTakes, ServerForgets, ServesFor, above, given}
 use Rattle.nbt_server.specs.declared.fault.ServerFault.{ServerFault}
 use Rattle.nbt_server.specs.declared.fault.ServerFault.TheVariants.{ClockBack, OutOfMemory}
 use Rattle.nbt_server.specs.Serving.{ServerValue}
-use Rattle.nbt_server.specs.Calls.{ServerTakes, ServerForgets}
 use Rattle.nbt_server.specs.Numbers.{server_fault_number}
-use Rattle.nbt_c.specs.Serving.{ServesFor}
 use Rattle.nbt_c.specs.Serving as is
-use Rattle.nbt_c.proofs.Calls.{above, given}
 use Rattle.nbt_c.proofs.serving.serve.Goals as goal
 
 module _ (old : ServerValue) (now : ℕ) (from : Addr) (octets : List ℕ) (new : ServerValue) (out : List ℕ) where

@@ -1,12 +1,5 @@
-use Rattle.std.proofs.Common.{◌≡◌, List, map, Some, refl, ap, subst, ◌∙◌}
-use Rattle.std.specs.Prelude.{slice_get}
-use Rattle.nbt_name.specs.Wire.{NameValue}
-use Rattle.nbt_dgram.specs.declared.dgram.Dgram.{Dgram}
-use Rattle.nbt_dgram.specs.Dgram.{dgram_of}
-use Rattle.nbt_dgram.specs.Fragments.{IsSplit}
+use Rattle.nbt_c.proofs.Common.{◌≡◌, List, map, Some, refl, ap, subst, ◌∙◌, slice_get, NameValue, Dgram, dgram_of, IsSplit, SplitsFor, octets_of, at_least, given}
 use Rattle.nbt_c.specs.Datagrams as is
-use Rattle.nbt_c.specs.Datagrams.{SplitsFor, octets_of}
-use Rattle.nbt_c.proofs.Calls.{at_least, given}
 use Rattle.nbt_c.proofs.Packets.{packets_have_room}
 use Rattle.nbt_c.proofs.splitting.cut.Goals as goal
 

@@ -1,7 +1,5 @@
-use Rattle.std.proofs.Common.{◌≡◌, length, sym, ap, ◌∙◌}
-use Rattle.nbt_dgram.specs.Dgram.{dgram_of}
+use Rattle.nbt_c.proofs.Common.{◌≡◌, length, sym, ap, ◌∙◌, dgram_of, octets_of}
 use Rattle.nbt_dgram.specs.Text.{text}
-use Rattle.nbt_c.specs.Datagrams.{octets_of}
 use Rattle.nbt_c.proofs.Packets.{found_packet, no_packet, is_done, written_so}
 use Rattle.nbt_c.proofs.splitting.write.Goals as goal
 

@@ -1,6 +1,4 @@
-use Rattle.std.proofs.Common.{ap, ◌∙◌}
-use Rattle.nbt_name.specs.Wire.{wire}
-use Rattle.nbt_c.specs.Names.{IsWire, has_no_name}
+use Rattle.nbt_c.proofs.Common.{ap, ◌∙◌, wire, IsWire, has_no_name}
 use Rattle.nbt_c.proofs.Forms.{form_written}
 use Rattle.nbt_c.proofs.wire.nbt_name_to_wire.Goals as goal
 

@@ -1,8 +1,5 @@
-use Rattle.std.proofs.Common.{◌≡◌, ◌++◌, ◌∷◌, [], ℕ, List, length, sym, ◌∙◌, ap, subst, arith, append_assoc}
-use Rattle.std.proofs.lemmas.List.{append-nil, length-append, take-append-drop}
+use Rattle.nbt_c.proofs.Common.{◌≡◌, ◌++◌, ◌∷◌, [], ℕ, List, length, sym, ◌∙◌, ap, subst, arith, append_assoc, append-nil, length-append, take-append-drop, PrintsLabels, label_printed, none_printed, dot, nothing_left_over}
 use Rattle.nbt_name.proofs.Scopes.{IsScope-parts}
-use Rattle.nbt_text.specs.NameText.{PrintsLabels, label_printed, none_printed, dot}
-use Rattle.nbt_text.proofs.NameText.{nothing_left_over}
 use Rattle.nbt_c.proofs.words.labels_of.Goals as goal
 
 pub labels-preserved : goal.labels-preserved

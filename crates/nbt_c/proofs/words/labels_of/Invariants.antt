@@ -1,6 +1,4 @@
-use Rattle.std.proofs.Common.{◌++◌, ◌+◌, ◌*◌, ◌≤◌, List, ℕ, length}
-use Rattle.nbt_name.specs.Scope.{IsScope}
-use Rattle.nbt_text.specs.NameText.{PrintsLabels}
+use Rattle.nbt_c.proofs.Common.{◌++◌, ◌+◌, ◌*◌, ◌≤◌, List, ℕ, length, IsScope, PrintsLabels}
 use Rattle.nbt_c.proofs.words.labels_of.Given as goal
 
 abbrev pub invariant-labels : goal.invariant-labels

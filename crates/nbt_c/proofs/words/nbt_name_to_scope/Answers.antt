@@ -1,8 +1,4 @@
-use Rattle.std.proofs.Common.{List, ℕ, sym, subst}
-use Rattle.nbt_name.specs.Wire.{NameValue}
-use Rattle.nbt_text.specs.NameText.{PrintsLabels}
-use Rattle.nbt_text.specs.ScopedNames.{dotted}
-use Rattle.nbt_c.specs.Names.{IsScopeText, has_no_name}
+use Rattle.nbt_c.proofs.Common.{List, ℕ, sym, subst, NameValue, PrintsLabels, dotted, IsScopeText, has_no_name}
 use Rattle.nbt_c.proofs.Forms.{form_written}
 use Rattle.nbt_c.proofs.words.nbt_name_to_scope.Goals as goal
 

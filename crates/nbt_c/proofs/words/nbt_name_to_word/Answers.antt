@@ -1,7 +1,4 @@
-use Rattle.std.proofs.Common.{List, ℕ, sym, subst}
-use Rattle.nbt_name.specs.Wire.{NameValue}
-use Rattle.nbt_text.specs.SuffixedNames.{PrintsOctets}
-use Rattle.nbt_c.specs.Names.{IsWord, has_no_name}
+use Rattle.nbt_c.proofs.Common.{List, ℕ, sym, subst, NameValue, PrintsOctets, IsWord, has_no_name}
 use Rattle.nbt_c.proofs.Forms.{form_written}
 use Rattle.nbt_c.proofs.words.nbt_name_to_word.Goals as goal
 

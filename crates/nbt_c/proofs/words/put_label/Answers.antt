@@ -1,8 +1,5 @@
-use Rattle.std.proofs.Common.{◌++◌, true≢false, sym, refl, inr, arith}
-use Rattle.std.proofs.lemmas.List.{length-append}
-use Rattle.hex.specs.Hex.{encode_lower, lower_digits}
+use Rattle.nbt_c.proofs.Common.{◌++◌, true≢false, sym, refl, inr, arith, length-append, encode_lower, lower_digits, prefix}
 use Rattle.hex.proofs.HexLemmas.{length-encode_with}
-use Rattle.nbt_text.specs.NameText.{prefix}
 use Rattle.nbt_c.proofs.words.put_label.Goals as goal
 
 pub returns-else-stands_as_it_is : goal.returns-else-stands_as_it_is

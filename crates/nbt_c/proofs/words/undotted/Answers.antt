@@ -1,7 +1,4 @@
-use Rattle.std.proofs.Common.{◌≡◌, [], List, ℕ, sym, subst}
-use Rattle.nbt_text.specs.NameText.{PrintsLabels}
-use Rattle.nbt_text.proofs.NameText.{nothing_left_over}
-use Rattle.nbt_text.specs.ScopedNames.{dotted}
+use Rattle.nbt_c.proofs.Common.{◌≡◌, [], List, ℕ, sym, subst, PrintsLabels, nothing_left_over, dotted}
 use Rattle.nbt_c.proofs.Forms.{behind_dot}
 use Rattle.nbt_c.proofs.words.undotted.Goals as goal
 

@@ -1,4 +1,4 @@
-use Rattle.std.proofs.Common.{rules, ◌≡◌, [], ◌∷◌, ◌++◌}
+use Rattle.nbt_c.proofs.Common.{rules, ◌≡◌, [], ◌∷◌, ◌++◌}
 use Rattle.nbt_c.proofs.Forms.{word_pushed}
 use Rattle.nbt_c.proofs.words.with_suffix.Goals as goal
 

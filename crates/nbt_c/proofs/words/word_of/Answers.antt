@@ -1,8 +1,4 @@
-use Rattle.std.proofs.Common.{◌≡◌, [], ◌∷◌, ◌++◌, List, ℕ, sym, ap, subst, ◌∙◌}
-use Rattle.std.specs.Prelude.{slice_index}
-use Rattle.hex.specs.Hex.{encode_lower, encode_upper}
-use Rattle.nbt_text.specs.NameText.{prefix}
-use Rattle.nbt_text.specs.SuffixedNames.{PrintsOctets, in_capitals, in_hexadecimal}
+use Rattle.nbt_c.proofs.Common.{◌≡◌, [], ◌∷◌, ◌++◌, List, ℕ, sym, ap, subst, ◌∙◌, slice_index, encode_lower, encode_upper, prefix, PrintsOctets, in_capitals, in_hexadecimal}
 use Rattle.nbt_c.proofs.words.word_of.Goals as goal
 
 pub with_suffix-requires : goal.with_suffix-requires

@@ -14,14 +14,15 @@ returns-in-Err-clause-ok g c =
 pub returns-clause-ok : goal.returns-clause-ok
 returns-clause-ok g c =
     let did = c.in_ok-send.ensures.does in
-    let to = c.end_of.ensures in
+    let to = c.to.ensures in
+    let end = c.end_of.ensures in
     let octets = c.as_slice.ensures.value in
     let limit : c.get.result + c.args.patience ≡ c.now-now.result + c.args.patience = ap (λ (n : ℕ). n + c.args.patience) c.get.ensures.value in
     IfOk-weaker c.wait.result
     (λ (ending : Ending). Waited g.P.Port.does g.C.Clock.tells (c.get.result + c.args.patience) c.args.most ending c.wait.new.octets.items (record { port = c.send.new.self; clock = c.now-now.new.self; node = c.begin.new.node }) (record { port = c.wait.new.port; clock = c.wait.new.clock; node = c.wait.new.node }))
     (λ (ending : Ending). Looks g.P.Port.does g.C.Clock.tells c.args.question.now c.args.patience c.args.most c.args.port.now c.args.clock.now c.args.node.now ending c.wait.new.octets.items c.wait.new.port c.wait.new.clock c.wait.new.node)
     (λ ending w. is_asked c.now-now.result c.begin.new.out.items c.wait.new.octets.items ending c.send.new.self c.now-now.new.self c.begin.new.node c.wait.new.port c.wait.new.clock c.wait.new.node
-    c.now-now.ensures (sym c.in_default.ensures.refused) c.in_default.ensures.ok (rw (to, octets) at did)
+    c.now-now.ensures (sym c.in_default.ensures.refused) c.in_default.ensures.ok (rw (to, end, octets) at did)
     (subst (λ (n : ℕ). Waited g.P.Port.does g.C.Clock.tells n c.args.most ending c.wait.new.octets.items (record { port = c.send.new.self; clock = c.now-now.new.self; node = c.begin.new.node }) (record { port = c.wait.new.port; clock = c.wait.new.clock; node = c.wait.new.node })) limit w))
     c.wait.ensures.ok
 
@@ -29,18 +30,20 @@ pub returns-in_err-send-clause-err : goal.returns-in_err-send-clause-err
 returns-in_err-send-clause-err g c =
     let p = err_from_is_err_and c.from_residual.result c.from_residual.ensures.1 in
     let did = c.in_err-send.ensures.does in
-    let to = c.end_of.ensures in
+    let to = c.to.ensures in
+    let end = c.end_of.ensures in
     let octets = c.as_slice.ensures.value in
-    rw p.1 (at_question c.now-now.result c.begin.new.out.items c.send.new.self c.now-now.new.self c.begin.new.node c.now-now.ensures (sym c.in_default.ensures.refused) c.in_default.ensures.ok (rw (to, octets) at did))
+    rw p.1 (at_question c.now-now.result c.begin.new.out.items c.send.new.self c.now-now.new.self c.begin.new.node c.now-now.ensures (sym c.in_default.ensures.refused) c.in_default.ensures.ok (rw (to, end, octets) at did))
 
 pub returns-clause-err : goal.returns-clause-err
 returns-clause-err g c =
     let did = c.in_ok-send.ensures.does in
-    let to = c.end_of.ensures in
+    let to = c.to.ensures in
+    let end = c.end_of.ensures in
     let octets = c.as_slice.ensures.value in
     let limit : c.get.result + c.args.patience ≡ c.now-now.result + c.args.patience = ap (λ (n : ℕ). n + c.args.patience) c.get.ensures.value in
     on_err_weaker c.wait.result
     (λ w. at_turn c.now-now.result c.begin.new.out.items c.send.new.self c.now-now.new.self c.begin.new.node c.wait.new.port c.wait.new.clock c.wait.new.node
-    c.now-now.ensures (sym c.in_default.ensures.refused) c.in_default.ensures.ok (rw (to, octets) at did)
+    c.now-now.ensures (sym c.in_default.ensures.refused) c.in_default.ensures.ok (rw (to, end, octets) at did)
     (subst (λ (n : ℕ). Broken g.P.Port.does g.C.Clock.tells n c.args.most (record { port = c.send.new.self; clock = c.now-now.new.self; node = c.begin.new.node }) (record { port = c.wait.new.port; clock = c.wait.new.clock; node = c.wait.new.node })) limit w))
     c.wait.ensures.err

@@ -1,7 +1,7 @@
 use Rattle.std.proofs.Common.{Ok, Option, refl, subst}
 use Rattle.std.proofs.lemmas.Result.{err_from_is_err_and}
-use Rattle.nbt_name.specs.declared.addr.Addr.{Addr}
 use Rattle.nbt_node.specs.Moves.{nothing}
+use Rattle.nbt_port.specs.declared.port.Route.{Route}
 use Rattle.nbt_port.specs.PortCalls.{came, nothing_came, receiving}
 use Rattle.nbt_client.specs.Lookups.{Hears, hears_nothing}
 use Rattle.nbt_client.proofs.lookup_turn.listen.Goals as goal
@@ -16,7 +16,7 @@ returns-in-Some-clause-ok g c =
       hears = subst (λ octets. Hears c.now-now.result c.args.node.now (came c.in-Some.from octets) h.0 c.hear.new.node) c.as_slice.ensures.value h.1;
       ended_is = h.2;
       by = λ ends. (c.in-Some.from, refl);
-      port_did = subst (λ (from : Option Addr). g.P.Port.does c.args.port.now (receiving (Ok from) c.receive.new.octets.items) c.receive.new.self) c.in-Some.is c.in_ok-from.ensures.does;
+      port_did = subst (λ (from : Option Route). g.P.Port.does c.args.port.now (receiving (Ok from) c.receive.new.octets.items) c.receive.new.self) c.in-Some.is c.in_ok-from.ensures.does;
       clock_told = c.now-now.ensures;
     }
 
@@ -28,7 +28,7 @@ returns-in-None-clause-ok g c = record {
   hears = hears_nothing;
   ended_is = refl;
   by = λ ends. absurd cc;
-  port_did = subst (λ (from : Option Addr). g.P.Port.does c.args.port.now (receiving (Ok from) c.receive.new.octets.items) c.receive.new.self) c.in-None.is c.in_ok-from.ensures.does;
+  port_did = subst (λ (from : Option Route). g.P.Port.does c.args.port.now (receiving (Ok from) c.receive.new.octets.items) c.receive.new.self) c.in-None.is c.in_ok-from.ensures.does;
   clock_told = c.now-now.ensures;
 }
 

@@ -12,7 +12,6 @@ loop-init g c =
       run = rw c.new-row.ensures (goes_none (g.T.Turn.turns fixed) (g.T.Turn.breaks fixed) (g.T.Turn.state c.args.turn.now));
       few = rw c.new-row.ensures (omega arith);
       fixed = refl;
-      count = omega arith;
     }
 
 pub returns-in-Last-clause-ok : goal.returns-in-Last-clause-ok
@@ -44,8 +43,6 @@ returns-in-CutOff-clause-err g c =
 pub loop-preserved : goal.loop-preserved
 loop-preserved g c =
     let fixed = g.T.Turn.fixed c.args.turn.now in
-    let before = c.loop.invariant.count in
-    let count = c.take.ensures.count in
     elim c.match-take.branch [
       | in-Well w ↦
           let over = w.ends.ensures in
@@ -55,7 +52,6 @@ loop-preserved g c =
                 turn.0 over c.loop.invariant.few c.loop.invariant.run turn.1);
             few = rw w.row-is (omega (arith, over));
             fixed = c.take.ensures.fixed ∙ c.loop.invariant.fixed;
-            count = omega (arith, before, count);
           }
       | in-Failed+in_ok-goes_on-in-Failed w ↦
           let turn = rw (c.loop.invariant.fixed, w.in-Failed.is) at c.take.ensures.takes in
@@ -64,6 +60,5 @@ loop-preserved g c =
                 w.goes_on.ensures.count c.loop.invariant.few c.loop.invariant.run turn);
             few = rw w.row-is w.in_ok-goes_on-in-Failed.ensures.ok;
             fixed = c.take.ensures.fixed ∙ c.loop.invariant.fixed;
-            count = omega (arith, before, count);
           }
     ]

@@ -1,7 +1,8 @@
 use Rattle.std.proofs.Common.{refl}
 use Rattle.std.specs.Prelude.{◌≢◌, slice_index}
 use Rattle.nbt_text.specs.NameText.{SpellsName}
-use Rattle.nbt_admin.proofs.Reading.{both, some, none}
+use Rattle.nbt_admin.proofs.Takes.{both}
+use Rattle.nbt_prog.proofs.Reading.{some, none}
 use Rattle.nbt_prog.proofs.network.name_to_hold.Goals as goal
 
 pub returns-in-Some-clause-read : goal.returns-in-Some-clause-read

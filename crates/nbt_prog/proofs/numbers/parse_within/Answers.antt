@@ -1,7 +1,8 @@
 use Rattle.std.proofs.Common.{◌≤◌, refl}
 use Rattle.nbt_text.specs.Number.{SpellsNumber}
 use Rattle.nbt_args.specs.Limits.{least_of, most_of}
-use Rattle.nbt_admin.proofs.Reading.{both, some, none}
+use Rattle.nbt_admin.proofs.Takes.{both}
+use Rattle.nbt_prog.proofs.Reading.{some, none}
 use Rattle.nbt_prog.proofs.numbers.parse_within.Goals as goal
 
 pub returns-in-Some-clause-read : goal.returns-in-Some-clause-read

@@ -9,4 +9,5 @@ returns-then-has-clause-acts g c = λ sheet.
 
 pub returns-clause-acts : goal.returns-clause-acts
 returns-clause-acts g c = λ sheet.
-    was_asked g.P.Port.does c.args.plan.now c.args.request.now c.args.now c.args.port.now c.args.scan.now sheet c.go_past-2.new.self c.send.new.self c.has.result c.index.result.now c.send.result c.has.ensures c.if-has.false (get_or_read c.args.plan.now.ips.items c.args.scan.now.progress.place c.index.result.now (omega (arith, c.requires.place)) c.index.ensures 0) c.send.ensures.does c.go_past-2.ensures
+    let did = c.send.ensures.does in
+    was_asked g.P.Port.does c.args.plan.now c.args.request.now c.args.now c.args.port.now c.args.scan.now sheet c.go_past-2.new.self c.send.new.self c.has.result c.index.result.now c.send.result c.has.ensures c.if-has.false (get_or_read c.args.plan.now.ips.items c.args.scan.now.progress.place c.index.result.now (omega (arith, c.requires.place)) c.index.ensures 0) (rw c.to.ensures at did) c.go_past-2.ensures

@@ -4,7 +4,7 @@ use Rattle.nbt_scan.proofs.Turns.{passed_on, over_at_last, spent_at_last}
 use Rattle.nbt_scan.proofs.scanning.scan_all.Goals as goal
 
 pub loop-init : goal.loop-init
-loop-init g c = record { passed = ([], refl, refl); least = omega arith; most = omega arith; flags = c.requires.flags }
+loop-init g c = record { passed = ([], refl, refl); least = omega arith; flags = c.requires.flags }
 
 pub loop-preserved : goal.loop-preserved
 loop-preserved g c =
@@ -15,7 +15,6 @@ loop-preserved g c =
       passed = passed_on g.P.Port.does g.C.Clock.tells c.args.plan.now c.args.id c.args.request.now c.args.layout c.loop.counter old mid c.loop.clock c.now-now.new.self c.now-now.result c.loop.invariant.passed c.now-now.ensures new
           (sym c.is_over.ensures ∙ c.if-is_over.false) c.in_ok-turn.ensures.ok;
       least = omega (arith, c.in_ok-turn.ensures.least, c.loop.invariant.least);
-      most = omega (arith, c.in_ok-turn.ensures.most, c.loop.invariant.most);
       flags = c.in_ok-turn.ensures.flags ∙ c.loop.invariant.flags;
     }
 

@@ -1,4 +1,4 @@
-use Rattle.std.proofs.Common.{◌≡◌, ◌+◌, ◌*◌, ◌≤◌, length}
+use Rattle.std.proofs.Common.{◌≡◌, ◌≤◌, length}
 use Rattle.nbt_scan.specs.Inner.Steps.{Passed}
 use Rattle.nbt_scan.proofs.scanning.scan_all.Given as goal
 
@@ -8,6 +8,5 @@ invariant-loop g l = record {
       (record { clock = l.fn.clock; here = record { port = l.fn.port; scan = l.fn.scan; sheet = record { kept = l.fn.kept.items; text = g.W.Write.contents l.fn.writer } } })
       (record { clock = l.clock; here = record { port = l.port; scan = l.scan; sheet = record { kept = l.kept.items; text = g.W.Write.contents l.writer } } });
   least : g.P.Port.failures l.fn.port ≤ g.P.Port.failures l.port;
-  most : g.P.Port.failures l.port ≤ g.P.Port.failures l.fn.port + 2 * l.counter;
   flags : length l.scan.replied ≡ length l.plan.ips.items;
 }

@@ -35,13 +35,13 @@ returns-in_err-send-in-Ok-clause-err g c =
     rw p.1 (served_unsent g.P.Port.does g.C.Clock.tells c.args.port.now c.receive.new.self c.args.clock.now c.now-now.new.self c.args.server.now c.handle.new.self
     c.in_ok-from.field-0 c.in-Some.from c.receive.new.octets.items c.now-now.result
     c.in-Some.is c.in_ok-from.ensures.does c.now-now.ensures c.handle.new.out.items c.in-Ok.outcome c.send.new.self
-    (subst (λ octets. ServerHandles c.args.server.now c.now-now.result c.in-Some.from.ip octets c.in-Ok.outcome c.handle.new.out.items c.handle.new.self) c.as_slice.ensures.value c.in-Ok.ensures.handled)
+    (subst (λ octets. ServerHandles c.args.server.now c.now-now.result c.in-Some.from.peer.ip octets c.in-Ok.outcome c.handle.new.out.items c.handle.new.self) c.as_slice.ensures.value c.in-Ok.ensures.handled)
     (sym c.has_reply.ensures ∙ c.if-has_reply.true)
     (subst (λ out. g.P.Port.does c.receive.new.self (send_failed c.in-Some.from out) c.send.new.self) c.as_slice-then-has_reply.ensures.value c.in_err-send-in-Ok.ensures.does))
 
 pub returns-after-has_reply-clause-ok : goal.returns-after-has_reply-clause-ok
 returns-after-has_reply-clause-ok g c =
-    let handled = subst (λ octets. ServerHandles c.args.server.now c.now-now.result c.in-Some.from.ip octets c.in-Ok.outcome c.handle.new.out.items c.handle.new.self) c.as_slice.ensures.value c.in-Ok.ensures.handled in
+    let handled = subst (λ octets. ServerHandles c.args.server.now c.now-now.result c.in-Some.from.peer.ip octets c.in-Ok.outcome c.handle.new.out.items c.handle.new.self) c.as_slice.ensures.value c.in-Ok.ensures.handled in
     elim c.if-has_reply.branch [
       | then-has_reply+in_ok-send-in-Ok w ↦
           rw (c.of.ensures, c.as_slice-in-Ok.ensures.value, w.port-is, w.counts-is) (served_replied g.P.Port.does g.C.Clock.tells c.args.port.now c.receive.new.self c.args.clock.now c.now-now.new.self c.args.server.now c.handle.new.self

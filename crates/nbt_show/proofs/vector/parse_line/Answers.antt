@@ -1,17 +1,14 @@
-use Rattle.nbt_show.specs.Inner.Line.{passed_over, vector_stands, unreadable}
 use Rattle.nbt_show.proofs.vector.parse_line.Goals as goal
 
 pub returns-in_default : goal.returns-in_default
-returns-in_default c = passed_over (rw c.in_default.is at c.in_ok-words.ensures)
+returns-in_default c = rw c.in_default.is at c.in_ok-words.ensures
 
 pub returns-in-Some-2 : goal.returns-in-Some-2
 returns-in-Some-2 c =
     let words = rw c.in-Some.is at c.in_ok-words.ensures in
-    let spelled = rw c.in-Some-2.is at c.in_ok-vector.ensures in
-    vector_stands c.in-Some-2.vector words.0 (rw (← words.1, ← c.as_slice.ensures.value) spelled)
+    (words.0, rw (← words.1, ← c.as_slice.ensures.value) (rw c.in-Some-2.is at c.in_ok-vector.ensures))
 
 pub returns : goal.returns
 returns c =
     let words = rw c.in-Some.is at c.in_ok-words.ensures in
-    let none = rw c.in-None.is at c.in_ok-vector.ensures in
-    unreadable words.0 (rw (← words.1, ← c.as_slice.ensures.value) none)
+    (words.0, rw (← words.1, ← c.as_slice.ensures.value) (rw c.in-None.is at c.in_ok-vector.ensures))

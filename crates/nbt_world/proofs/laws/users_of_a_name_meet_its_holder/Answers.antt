@@ -15,7 +15,7 @@ pub returns-clause-timely : goal.returns-clause-timely
 returns-clause-timely c = λ world kept on. served_as_group c.calls_go_to_held_names.ensures world (is_safe world kept on)
 
 pub returns-clause-along : goal.returns-clause-along
-returns-clause-along c = λ events old new worlds runs k d lt on. served_as_group c.calls_go_to_held_names.ensures _ (runs.safe_timely k d lt on)
+returns-clause-along c = λ old new worlds runs k d lt on. served_as_group c.calls_go_to_held_names.ensures _ (runs.safe_timely k d lt on)
 
 pub returns-clause-along_kept : goal.returns-clause-along_kept
-returns-clause-along_kept c = λ events old new worlds runs k d lt on. served_as_group c.calls_go_to_held_names.ensures _ (runs.safe k d lt on)
+returns-clause-along_kept c = λ old new worlds runs k d lt on. served_as_group c.calls_go_to_held_names.ensures _ (runs.safe k d lt on)

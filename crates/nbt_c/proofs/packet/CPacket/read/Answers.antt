@@ -1,6 +1,4 @@
-use Rattle.std.proofs.Common.{ℕ, List, sym, subst}
-use Rattle.nbt_session.specs.Packet.{message}
-use Rattle.nbt_c.specs.Sessions.{IsPacketIn, is_message}
+use Rattle.nbt_c.proofs.Common.{ℕ, List, sym, subst, message, IsPacketIn, is_message}
 use Rattle.nbt_c.proofs.packet.CPacket.read.Goals as goal
 
 pub returns-then-self-eq-MESSAGE-clause-packet : goal.returns-then-self-eq-MESSAGE-clause-packet

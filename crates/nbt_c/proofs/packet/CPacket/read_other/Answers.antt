@@ -1,8 +1,5 @@
-use Rattle.std.proofs.Common.{sym, subst, arith}
-use Rattle.nbt_name.specs.declared.addr.Addr.{Addr}
-use Rattle.nbt_session.specs.Packet.{retarget}
+use Rattle.nbt_c.proofs.Common.{sym, subst, arith, Addr, retarget, IsPacketIn}
 use Rattle.nbt_c.specs.Sessions as is
-use Rattle.nbt_c.specs.Sessions.{IsPacketIn}
 use Rattle.nbt_c.proofs.packet.CPacket.read_other.Goals as goal
 
 pub returns-in-130-clause-packet : goal.returns-in-130-clause-packet

@@ -1,8 +1,5 @@
-use Rattle.std.proofs.Common.{sym, subst}
-use Rattle.nbt_name.specs.Wire.{NameValue}
-use Rattle.nbt_session.specs.Packet.{request}
+use Rattle.nbt_c.proofs.Common.{sym, subst, NameValue, request, IsPacketIn}
 use Rattle.nbt_c.specs.Sessions as is
-use Rattle.nbt_c.specs.Sessions.{IsPacketIn}
 use Rattle.nbt_c.proofs.packet.CPacket.read_request.Goals as goal
 
 pub returns-in_default-clause-fault : goal.returns-in_default-clause-fault

@@ -13,7 +13,7 @@ returns-in_default-decide-clause-does g c =
     let front = rw c.decide.ensures.stays at c.hand_on.ensures.front in
     let leaves = rw (c.decide.ensures.stays, c.as_slice-in_default-decide.ensures.value) at c.hand_on.ensures.left in
     rw (← c.self.view_is) (λ before did.
-    hands_other g.P.Port.does desk before c.self.inside.beneath c.args.from c.args.octets.now.items passed.0 c.in-Some.sender c.in-Some.is did c.hand_on.new.self front passed.1 leaves)
+    hands_other g.P.Port.does desk before c.self.inside.beneath c.args.from c.args.octets.now.items passed.0 c.in-Some.route c.in-Some.is did c.hand_on.new.self front passed.1 leaves)
 
 pub returns-in_err-send-clause-does : goal.returns-in_err-send-clause-does
 returns-in_err-send-clause-does g c =
@@ -21,7 +21,7 @@ returns-in_err-send-clause-does g c =
     let decided = rw c.as_slice.ensures.value at c.in-Some-decide.ensures.decided in
     let fails = rw c.as_slice-2.ensures.value at c.in_err-send.ensures.does in
     rw (p.1, c.decide.ensures.stays, ← c.self.view_is) (λ before did.
-    is_not_answered g.P.Port.does c.self.inside.desk before c.self.inside.beneath c.args.from c.args.octets.now.items decided.0 c.in-Some.sender c.in-Some.is did c.in-Some-decide.decision decided.1 decided.2
+    is_not_answered g.P.Port.does c.self.inside.desk before c.self.inside.beneath c.args.from c.args.octets.now.items decided.0 c.in-Some.route c.in-Some.is did c.in-Some-decide.decision decided.1 decided.2
     c.decide.new.reply.items c.send.new.self decided.3 decided.4 decided.5 fails)
 
 pub returns-clause-does : goal.returns-clause-does
@@ -29,5 +29,5 @@ returns-clause-does g c =
     let decided = rw c.as_slice.ensures.value at c.in-Some-decide.ensures.decided in
     let sends = rw c.as_slice-2.ensures.value at c.in_ok-send.ensures.does in
     rw (c.note.ensures, c.decide.ensures.stays, ← c.self.view_is) (λ before did.
-    is_answered g.P.Port.does c.self.inside.desk before c.self.inside.beneath c.args.from c.args.octets.now.items decided.0 c.in-Some.sender c.in-Some.is did c.in-Some-decide.decision decided.1 decided.2
+    is_answered g.P.Port.does c.self.inside.desk before c.self.inside.beneath c.args.from c.args.octets.now.items decided.0 c.in-Some.route c.in-Some.is did c.in-Some-decide.decision decided.1 decided.2
     c.decide.new.reply.items c.send.new.self decided.3 decided.4 decided.5 sends)

@@ -1,8 +1,8 @@
 use Rattle.std.proofs.Common.{◌≡◌, ◌++◌, ◌∙◌, refl, ap}
 use Rattle.std.specs.String.{string_bytes}
 use Rattle.nbt_text.proofs.Joining.{OnOk-map}
-use Rattle.nbt_report.specs.Stats.{stats_text}
-use Rattle.nbt_report.specs.declared.stats.Figures.{Figures}
+use Rattle.nbt_log.specs.Stats.{stats_text}
+use Rattle.nbt_log.specs.declared.stats.Figures.{Figures}
 use Rattle.nbt_nbns.specs.Reports.{figures_of}
 use Rattle.nbt_nbns.proofs.report.StatsReportReport.write.Goals as goal
 

@@ -1,7 +1,7 @@
 use Rattle.std.proofs.Common.{[], ◌∷◌}
 use Rattle.nbt_world.specs.Safety.{ends}
 use Rattle.nbt_world.proofs.Running.{run_next, run_whole, stopped_at}
-use Rattle.nbt_world.proofs.Going.{along_first, along_next, runs_safely, runs_whole}
+use Rattle.nbt_world.proofs.Going.{along_first, along_next, along_whole, runs_safely, runs_by_clocks}
 use Rattle.nbt_world.proofs.world.World.run.Goals as goal
 
 pub loop-number-init : goal.loop-number-init
@@ -17,7 +17,13 @@ loop-number-preserved c =
 
 pub returns-in-Err-clause-stopped : goal.returns-in-Err-clause-stopped
 returns-in-Err-clause-stopped c =
-    let before = c.loop-number.invariant in (c.loop-number-test.true, before.0, rw (c.in-Err.ensures.refused) before.1, rw (c.in-Err.ensures.refused) (runs_safely before.2))
+    let before = c.loop-number.invariant in (
+      c.loop-number-test.true,
+      before.0,
+      rw (c.in-Err.ensures.refused) before.1,
+      rw (c.in-Err.ensures.refused) (runs_safely before.2),
+      rw (c.in-Err.ensures.refused) (runs_by_clocks before.2),
+    )
 
 pub returns-in-Err-clause-memory : goal.returns-in-Err-clause-memory
 returns-in-Err-clause-memory c =
@@ -26,8 +32,10 @@ returns-in-Err-clause-memory c =
 
 pub returns-clause-ran : goal.returns-clause-ran
 returns-clause-ran c =
-    let before = c.loop-number.invariant in (
+    let before = c.loop-number.invariant in
+    let along = along_whole c.args.events.now c.loop-number.number c.loop-number-test.false before.2 in (
       before.0,
       run_whole c.args.events.now c.loop-number.number c.loop-number-test.false before.1,
-      runs_whole c.args.events.now c.loop-number.number c.loop-number-test.false before.2,
+      runs_safely along,
+      runs_by_clocks along,
     )

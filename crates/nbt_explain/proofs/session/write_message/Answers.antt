@@ -1,6 +1,0 @@
-use Rattle.std.proofs.Common.{append_assoc}
-use Rattle.nbt_text.proofs.Joining.{OnOk-map}
-use Rattle.nbt_explain.proofs.session.write_message.Goals as goal
-
-pub returns : goal.returns
-returns c = OnOk-map c.writeln.result c.writeln.ensures.bytes (λ e. rw e (simp append_assoc))

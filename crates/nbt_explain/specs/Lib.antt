@@ -1,7 +1,0 @@
-pub mod Dgrams
-pub mod Digits
-pub mod Packets
-pub mod Rows
-pub mod Sentences
-pub mod Sessions
-pub mod Words

@@ -1,5 +1,0 @@
-use Rattle.nbt_keep.proofs.WholeRuns.{replies_follow}
-use Rattle.nbt_keep.proofs.laws.no_reply_precedes_its_change.Goals as goal
-
-pub returns : goal.returns
-returns c = replies_follow

@@ -1,5 +1,0 @@
-use Rattle.nbt_keep.proofs.WholeRuns.{servers_go}
-use Rattle.nbt_keep.proofs.laws.servers_go_by_turns.Goals as goal
-
-pub returns : goal.returns
-returns c = servers_go

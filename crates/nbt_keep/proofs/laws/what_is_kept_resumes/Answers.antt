@@ -1,5 +1,0 @@
-use Rattle.nbt_keep.proofs.Resumed.{resumes_kept}
-use Rattle.nbt_keep.proofs.laws.what_is_kept_resumes.Goals as goal
-
-pub returns : goal.returns
-returns c = resumes_kept

@@ -1,5 +1,0 @@
-use Rattle.nbt_keep.proofs.Renewed.{renewed_kept}
-use Rattle.nbt_keep.proofs.laws.what_is_written_is_kept.Goals as goal
-
-pub returns : goal.returns
-returns c = renewed_kept

@@ -1,5 +1,0 @@
--- What only the contracts of private functions cite: a caller needs none of it.
-pub mod Telling
-pub mod Passing
-pub mod Taking
-pub mod Ending

@@ -1,0 +1,71 @@
+//! The folder that keeps a server's leases.
+
+ghost use Rattle.std.specs.Prelude.{◌≡◌, false, IfOk};
+
+use nbt_lease::Lease;
+use nbt_name::Name;
+use nbt_store::{Broken, Change, DiskStore, Header, Store, Syncs, SystemDisk};
+use std::alloc::Global;
+use std::marker::Model;
+use std::rt::Files;
+use std::{io, time};
+
+/// A store in a folder of the system. What its files keep no contract can say: one sees whether the store is broken.
+#[derive(Drop)]
+pub struct FolderStore<'a, M: Files> {
+    store: DiskStore<SystemDisk<'a, M>>,
+}
+
+impl<'a, M: Files> Model for FolderStore<'a, M> {
+    ghost use Rattle.std.specs.Prelude.{Bool};
+    ghost use Rattle.nbt_store.specs.DiskStores.{is_broken};
+
+    ghost Value = { Bool };
+
+    ghost view = { λ f. is_broken f.store };
+}
+
+impl<'a, M: Files + time::Clock> FolderStore<'a, M> {
+    /// Opens the store of a folder with these leases, as [`DiskStore::open`] does.
+    pub fn open(
+        disk: SystemDisk<'a, M>,
+        alloc: Global,
+        header: &Header,
+        rows: &[(Name, Lease)],
+    ) -> io::Result<FolderStore<'a, M>>
+        ensures { IfOk result (λ folder. folder ≡ false) }
+    {
+        let store = DiskStore::open(disk, alloc, header, rows)?;
+        Ok(FolderStore { store })
+    }
+}
+
+impl<M: Files + time::Clock> Store for FolderStore<'_, M> {
+    ghost use Rattle.nbt_nbns.specs.Folders.{FolderDoes};
+
+    ghost does = { FolderDoes };
+
+    fn append(&mut self, change: &Change) -> Result<(), Broken> {
+        self.store.append(change)
+    }
+
+    fn sync(&mut self) -> Result<(), Broken> {
+        self.store.sync()
+    }
+
+    fn renew(&mut self, header: &Header, rows: &[(Name, Lease)]) -> Result<(), Broken> {
+        self.store.renew(header, rows)
+    }
+
+    fn is_long(&self) -> bool {
+        self.store.is_long()
+    }
+
+    fn error(&self) -> Option<&io::Error> {
+        self.store.error()
+    }
+
+    fn syncs(&self) -> Syncs {
+        self.store.syncs()
+    }
+}

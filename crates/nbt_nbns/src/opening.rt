@@ -1,0 +1,245 @@
+//! What a server reads and writes at its start, where it keeps its leases.
+
+ghost use Rattle.std.specs.Prelude.{◌≡◌, false, IfOk, IfErr};
+ghost use Rattle.nbt_nbns.specs.Opening.{IsStoreFault, IsFoundHere, seen_in};
+ghost use Rattle.nbt_nbns.specs.Inner.Resuming.{AreRead};
+ghost use Rattle.nbt_serve.specs.Runs.{live_rows};
+
+use crate::arguments::StateFolder;
+use crate::folder::FolderStore;
+use nbt_lease::{Config, Lease, Moment};
+use nbt_name::{Addr, Name};
+use nbt_port::{Clock, Fault, MachineClock, SteadyClock, readable_clock, steady_clock};
+use nbt_serve::list_live;
+use nbt_store::{
+    Begun, Boot, Fault as FileFault, Found, Reason, Seen, SystemDisk, begin, outlasts, this_boot,
+};
+use std::alloc::Global;
+use std::fs::File;
+use std::io::{ErrorKind, Write};
+use std::net::Net;
+use std::rt::Files;
+use std::{io, time};
+
+/// A store that was opened, and the leases that it has.
+#[derive(Drop)]
+pub(crate) struct Opened<'a, M: Files> {
+    /// The store.
+    pub store: FolderStore<'a, M>,
+    /// The leases that it has.
+    pub rows: Vec<(Name, Lease)>,
+}
+
+/// A folder that is locked for this server alone. Its file and the machine's clocks are read through it, so after it was locked: no server
+/// that had it before does anything by then.
+#[derive(Drop)]
+pub(crate) struct Locked<'a, M: Files> {
+    disk: SystemDisk<'a, M>,
+    folder: &'a str,
+}
+
+/// What both clocks of a machine told at a start.
+#[derive(Clone, Copy, Debug, PartialEq, Eq)]
+pub(crate) struct Told {
+    /// The monotonic clock, at first.
+    pub before: Moment,
+    /// Then the time of day.
+    pub time: Moment,
+    /// Then the monotonic clock again.
+    pub monotonic: Moment,
+}
+
+impl Told {
+    /// The same in this boot.
+    fn seen_in(self, boot: &Boot) -> Seen<'_>
+        ensures { result ≡ seen_in self boot.entry }
+    {
+        Seen {
+            boot,
+            before: self.before,
+            day: self.time,
+            monotonic: self.monotonic,
+        }
+    }
+}
+
+/// Both clocks of a machine, and what they told.
+#[derive(Drop)]
+pub(crate) struct Clocks<'a, M: time::Clock> {
+    /// The monotonic clock.
+    pub steady: SteadyClock<'a, M>,
+    /// The clock of the time of day.
+    pub day: MachineClock<'a, M>,
+    /// What they told.
+    pub told: Told,
+}
+
+impl<'a, M: Files<File = File>> Locked<'a, M> {
+    /// Locks a folder, which has to be there. Refused with `Memory` or `Store`: a line in `errors` says why.
+    pub fn lock<E: Write>(
+        machine: &'a M,
+        alloc: Global,
+        folder: &'a str,
+        errors: &mut E,
+    ) -> Result<Locked<'a, M>, Fault>
+        ensures { IfErr result IsStoreFault }
+    {
+        match SystemDisk::open_folder(machine, alloc, folder) {
+            Ok(disk) => Ok(Locked { disk, folder }),
+            Err(error) if error.kind() == ErrorKind::WouldBlock => {
+                let _ = tell_used(folder, errors);
+                Err(Fault::Store)
+            }
+            Err(error) => Err(refused("the folder can't be used", folder, error, errors)),
+        }
+    }
+
+    /// Reads the boot and the file, and a server begins with what is found, by what these clocks of this machine told. Refused with
+    /// `Memory`; with `Store` where they can't be read, and where a lease that was kept may outlast the silence of a server that begins
+    /// anew, as [`outlasts`] says: a line in `errors` says which.
+    pub fn begin<E: Write>(
+        &self,
+        machine: &M,
+        alloc: Global,
+        state: &StateFolder,
+        config: Config,
+        told: Told,
+        errors: &mut E,
+    ) -> Result<Begun, Fault>
+        ensures ok { IfOk result (IsFoundHere config told state.now.silent_after_boot) }
+        ensures err { IfErr result IsStoreFault }
+    {
+        let boot = boot_here(machine, alloc, self.folder, errors)?;
+        let kept = match self.disk.read(alloc) {
+            Ok(kept) => kept,
+            Err(error) => {
+                return Err(refused("the leases can't be read", self.folder, error, errors));
+            }
+        };
+        let found = Found {
+            kept: kept.as_ref().map(|octets| octets.as_slice()),
+            config,
+            seen: told.seen_in(&boot),
+            silent_after_boot: state.silent_after_boot,
+        };
+        if outlasts(alloc, &found)? {
+            let _ = tell_outlasted(self.folder, config, errors);
+            return Err(Fault::Store);
+        }
+        Ok(begin(alloc, &found)?)
+    }
+}
+
+impl<'a, M: Net + time::Clock + Files<File = File>> Locked<'a, M> {
+    /// Reads both clocks of the machine. Refused with `NoClock` where one can't be read: a line in `errors` says why.
+    pub fn clocks<'m, E: Write>(
+        &self,
+        machine: &'m M,
+        addr: Addr,
+        errors: &mut E,
+    ) -> Result<Clocks<'m, M>, Fault>
+        ensures ok { IfOk result (λ clocks. AreRead clocks.steady clocks.told clocks.day) }
+        ensures err { IfErr result (λ fault. fault ≡ Fault.NoClock) }
+    {
+        let mut steady = steady_clock(machine, addr, errors)?;
+        let mut day = readable_clock(machine, addr, errors)?;
+        let before = steady.now();
+        let time = day.now();
+        let monotonic = steady.now();
+        let told = Told {
+            before,
+            time,
+            monotonic,
+        };
+        Ok(Clocks { steady, day, told })
+    }
+}
+
+/// Opens the store of a folder with the leases of a server that begins. A file that is damaged or of another version is set aside before.
+/// Refused with `Memory` or `Store`.
+pub(crate) fn open_store<'a, M: Files<File = File> + time::Clock, E: Write>(
+    locked: Locked<'a, M>,
+    alloc: Global,
+    begun: &Begun,
+    errors: &mut E,
+) -> Result<Opened<'a, M>, Fault>
+    ensures store { IfOk result (λ opened. opened.store ≡ false) }
+    ensures rows { IfOk result (λ opened. opened.rows.items ≡ live_rows begun.now.server) }
+    ensures err { IfErr result IsStoreFault }
+{
+    let Locked { mut disk, folder } = locked;
+    if is_unreadable(&begun.reason) {
+        if let Err(error) = disk.set_aside() {
+            return Err(refused("the old leases can't be set aside", folder, error, errors));
+        }
+    }
+    let mut rows = Vec::new(alloc);
+    list_live(&begun.server, &mut rows)?;
+    match FolderStore::open(disk, alloc, &begun.header, rows.as_slice()) {
+        Ok(store) => Ok(Opened { store, rows }),
+        Err(error) => Err(refused("the leases can't be kept", folder, error, errors)),
+    }
+}
+
+/// The boot of this machine. Refused with `Memory` or `Store`.
+fn boot_here<M: Files, E: Write>(
+    machine: &M,
+    alloc: Global,
+    folder: &str,
+    errors: &mut E,
+) -> Result<Boot, Fault>
+    ensures { IfErr result IsStoreFault }
+{
+    match this_boot(machine, alloc) {
+        Ok(Some(boot)) => Ok(boot),
+        Ok(None) => {
+            let none = io::Error::other("it has no id");
+            Err(refused("the boot of this machine isn't known", folder, none, errors))
+        }
+        Err(error) => Err(refused(
+            "the boot of this machine isn't known",
+            folder,
+            error,
+            errors,
+        )),
+    }
+}
+
+/// Whether there is a file that can't be loaded.
+fn is_unreadable(reason: &Option<Reason>) -> bool {
+    match reason {
+        Some(Reason::File(FileFault::Version)) | Some(Reason::File(FileFault::Damaged(_))) => true,
+        _ => false,
+    }
+}
+
+/// What an error of the folder is to the program: `Memory` where the system is out of memory, else `Store`. A line in `errors` says
+/// what can't be done, and why; a failure to write it is ignored.
+fn refused<E: Write>(what: &str, folder: &str, error: io::Error, errors: &mut E) -> Fault
+    ensures { IsStoreFault result }
+{
+    let _ = tell(what, folder, error, errors);
+    match error.kind() {
+        ErrorKind::OutOfMemory => Fault::Memory,
+        _ => Fault::Store,
+    }
+}
+
+fn tell<E: Write>(what: &str, folder: &str, error: io::Error, errors: &mut E) -> io::Result<()> {
+    writeln!(errors, "nbt: {folder}: {what}: {error}")?;
+    errors.flush()
+}
+
+fn tell_outlasted<E: Write>(folder: &str, config: Config, errors: &mut E) -> io::Result<()> {
+    let silent = config.longest();
+    writeln!(
+        errors,
+        "nbt: {folder}: a lease that was kept under a longer LONGEST may outlast a silence of {silent} s: start with that LONGEST, or remove leases there when it has passed"
+    )?;
+    errors.flush()
+}
+
+fn tell_used<E: Write>(folder: &str, errors: &mut E) -> io::Result<()> {
+    writeln!(errors, "nbt: another server uses {folder}")?;
+    errors.flush()
+}

@@ -1,0 +1,159 @@
+//! When what watches a server that keeps its leases is shown what its turns were.
+
+ghost use Rattle.std.specs.Prelude.{◌≡◌, ◌↔◌, ◌≤◌, [], Some, IfOk, IsTrue, map, filter};
+ghost use Rattle.std.specs.VecDeque.{deque_capacity};
+ghost use Rattle.nbt_port.specs.PortCalls.{Chain};
+ghost use Rattle.nbt_serve.specs.Waiting.{batch};
+ghost use Rattle.nbt_nbns.specs.Teller.{SeesOne, Tells, has_left, is_shown, new_teller, queued};
+
+use crate::staying::{Shown, Watcher};
+use nbt_lease::{Config, Moment};
+use nbt_log::Entry;
+use nbt_serve::{BATCH, Waiting};
+use nbt_server::Server;
+use std::alloc::{AllocError, Global};
+use std::collections::VecDeque;
+use std::io::Write;
+use std::marker::Model;
+
+/// What a turn was that the watcher isn't shown yet.
+#[derive(Debug, Drop)]
+pub struct Untold {
+    /// When its datagram was read.
+    pub read: Moment,
+    /// What the server did with it.
+    pub entry: Entry,
+}
+
+impl Untold {
+    /// Whether it is shown once no reply waits, where what waited left at this moment, if it did.
+    fn is_shown(&self, limits: Config, left: Option<Moment>) -> bool
+        ensures { result ≡ is_shown limits.life left self.now }
+    {
+        !self.entry.outcome.has_reply() || self.has_left(limits, left)
+    }
+
+    /// Whether its reply has left then.
+    fn has_left(&self, limits: Config, left: Option<Moment>) -> bool
+        ensures { result ≡ has_left limits.life left self.now.read }
+    {
+        match left {
+            Some(now) => now.get() <= self.read.get() + limits.life(),
+            None => true,
+        }
+    }
+}
+
+/// What watches a server, and the turns that it isn't shown yet, since a reply waits: a log says what was granted once the reply has
+/// left. A contract sees both.
+#[derive(Drop)]
+pub struct Teller<V> {
+    watcher: V,
+    untold: VecDeque<Untold>,
+    ghost room: { batch ≤ deque_capacity untold },
+}
+
+impl<V> Model for Teller<V> {
+    ghost use Rattle.nbt_nbns.specs.Teller.{TellerValue};
+
+    ghost Value = { TellerValue V };
+
+    ghost view = { λ t. record { watcher = t.watcher; untold = t.untold.items } };
+}
+
+impl<V: Drop> Teller<V> {
+    /// Nothing is to be shown yet. The memory for 64 turns is taken here.
+    pub fn new(alloc: Global, watcher: V) -> Result<Teller<V>, AllocError>
+        ensures { IfOk result (λ teller. teller ≡ new_teller watcher) }
+    {
+        let untold = VecDeque::with_capacity(alloc, BATCH)?;
+        Ok(Teller { watcher, untold })
+    }
+}
+
+impl<V: Watcher> Teller<V> {
+    /// A turn was this, in which what waited left at this moment, if it did. The watcher is shown each turn whose reply has left by now, in
+    /// their order, this one last: so nothing while a reply waits, and that nothing was where there is none. A turn is left out whose
+    /// reply was dropped since it would have left too late.
+    pub(crate) fn tell<W: Write, E: Write>(
+        &mut self,
+        server: &Server,
+        waiting: &Waiting,
+        left: Option<Moment>,
+        shown: &mut Shown,
+        writer: &mut W,
+        errors: &mut E,
+    )
+        ensures { Tells V.sees server.now waiting.now left shown.old self.old (W.contents writer.old) self.new (W.contents writer.new) }
+    {
+        self.queue(server.last(), shown.entry.take());
+        if !waiting.is_empty() {
+            return;
+        }
+        self.drop_late(server.table().config(), left);
+        if self.has_none() {
+            self.watcher.see(server, shown, writer, errors);
+            return;
+        }
+        show_each(
+            &mut self.watcher,
+            &mut self.untold,
+            server,
+            shown,
+            writer,
+            errors,
+        );
+    }
+}
+
+impl<V> Teller<V> {
+    /// Whether no turn is to be shown.
+    fn has_none(&self) -> bool
+        ensures { IsTrue result ↔ (self.now.untold ≡ []) }
+    {
+        self.untold.is_empty()
+    }
+
+    /// One more turn is to be shown, if the server took a datagram in it.
+    fn queue(&mut self, read: Moment, entry: Option<Entry>)
+        ensures { self.new ≡ record self.old { untold = queued self.old.untold read entry } }
+    {
+        let Some(entry) = entry else {
+            return;
+        };
+        if self.untold.len() >= BATCH {
+            self.untold.clear();
+        }
+        self.untold.push_back_reserved(Untold { read, entry });
+    }
+
+    /// The turns are left out whose replies were dropped.
+    fn drop_late(&mut self, limits: Config, left: Option<Moment>)
+        ensures { self.new ≡ record self.old { untold = filter (is_shown limits.life left) self.old.untold } }
+    {
+        self.untold.retain(|untold| untold.is_shown(limits, left));
+    }
+}
+
+/// Shows a watcher each of these turns, with the moment and the health of `shown`.
+fn show_each<V: Watcher, W: Write, E: Write>(
+    watcher: &mut V,
+    untold: &mut VecDeque<Untold>,
+    server: &Server,
+    shown: &Shown,
+    writer: &mut W,
+    errors: &mut E,
+)
+    ensures seen { Chain (SeesOne V.sees server.now) (record { watcher = watcher.old; text = W.contents writer.old }) (map (λ turn. record shown.now { entry = Some turn.entry }) untold.old.items) (record { watcher = watcher.new; text = W.contents writer.new }) }
+    ensures none { untold.new.items ≡ [] }
+    ensures capacity { deque_capacity untold.new ≡ deque_capacity untold.old }
+{
+    'turns: while let Some(turn) = untold.pop_front() {
+        let seen = Shown {
+            entry: Some(turn.entry),
+            at: shown.at,
+            health: shown.health,
+        };
+        watcher.see(server, &seen, writer, errors);
+    }
+}

@@ -1,4 +1,0 @@
-pub mod Drawing
-pub mod Escaping
-pub mod Inner
-pub mod Shapes

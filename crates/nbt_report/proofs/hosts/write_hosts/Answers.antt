@@ -1,9 +1,0 @@
-use Rattle.std.proofs.Common.{◌++◌, refl}
-use Rattle.std.specs.String.{string_bytes}
-use Rattle.nbt_text.proofs.Joining.{OnOk-map, two_parts}
-use Rattle.nbt_report.specs.Hosts.{hosts_head}
-use Rattle.nbt_report.proofs.hosts.write_hosts.Goals as goal
-
-pub returns : goal.returns
-returns c =
-    OnOk-map c.write_rows.result c.write_rows.ensures (λ lines. (hosts_head ++ lines.0, (lines.0, lines.1, refl), two_parts (string_bytes c.args.out.now) _ _ hosts_head lines.0 c.in_ok-push_str.ensures.bytes lines.2))

@@ -1,6 +1,0 @@
-use Rattle.std.proofs.Common.{◌≡◌, take}
-use Rattle.nbt_resume.specs.Resuming.{later_rows}
-use Rattle.nbt_resume.proofs.resuming.later_rows.Given as goal
-
-abbrev pub invariant-loop-row : goal.invariant-loop-row
-invariant-loop-row l = l.later.items ≡ later_rows l.by (take l.row-index l.rows)

@@ -1,3 +1,0 @@
-pub mod Resuming
-pub mod Outlasting
-pub mod Beginning

@@ -1,0 +1,148 @@
+-- Whole runs of a server that keeps its leases, and what a crash leaves of them (our profile).
+use Rattle.std.specs.Prelude.{◌≡◌, ℕ, ◌+◌, ◌≤◌, List, [], ◌∷◌, ◌++◌, length, map, filter, Option, Some, None}
+use Rattle.std.specs.List.{flat_map}
+use Rattle.nbt_lease.specs.Lease.{Rows, is_live}
+use Rattle.nbt_port.specs.declared.port.Route.{Route}
+use Rattle.nbt_port.specs.Memory.{DatagramValue}
+use Rattle.nbt_port.specs.PortCalls.{Chain, sent, send_failed}
+use Rattle.nbt_server.specs.Serving.{ServerValue}
+use Rattle.nbt_store.specs.declared.change.Change.{Change}
+use Rattle.nbt_store.specs.declared.header.Header.{Header}
+use Rattle.nbt_store.specs.declared.change.Change.TheVariants.{Looked}
+use Rattle.nbt_store.specs.Lines.{AllStand}
+use Rattle.nbt_store.specs.declared.form.Form.TheVariants.{Three}
+use Rattle.nbt_store.specs.Calls.{StoreCall, renewed, renew_failed, Kept, after_calls, MayLeaveAfter, first_changes, new_leases}
+use Rattle.nbt_store.specs.Changes.{after_all, no_leases, last_of}
+use Rattle.nbt_serve.specs.Serving.{Turn, Turns}
+use Rattle.nbt_serve.specs.Changing.{IsKept}
+use Rattle.nbt_serve.specs.Devices.{DeviceCall, on_port, on_store}
+use Rattle.nbt_serve.specs.Waiting.{WaitingValue, none_waits, IsClear, with_line, dropped, lay_down, LineFails}
+use Rattle.nbt_serve.specs.Turning.{Took, Takes, TakesAny, reply_in, reach, Passes, Fails}
+use Rattle.nbt_serve.specs.declared.fault.KeepFault.TheVariants as fault
+
+-- ---- a run
+
+-- a server, and the replies that wait
+pub record Held : Type 0 where
+  pub server : ServerValue
+  pub waiting : WaitingValue
+
+-- what is seen of a step: what the server took in it, if it took something, and the calls of the devices
+pub record Seen : Type 0 where
+  pub took : Option Took
+  pub calls : List DeviceCall
+
+-- the live leases of a server, as rows
+abbrev pub live_rows : ServerValue → Rows
+live_rows server = filter (λ row. is_live server.last row.1) server.table.rows
+
+-- A step after which the server goes on: a turn, also one in which the port fails; or, where no reply waits, and at a moment that isn't
+-- before the durable time, a line of both clocks becomes durable, or its live leases are written in place of all that is kept.
+pub data Steps (old : Held) : Seen → Held → Type 0 where
+  takes_turn : (life : ℕ) (took : Took) (calls : List DeviceCall) (readings : List ℕ) (server : ServerValue) (waiting : WaitingValue) → Takes old.server took server → Passes life old.waiting took calls readings waiting
+      → Steps old (record { took = Some took; calls = calls }) (record { server = server; waiting = waiting })
+  port_fails : (life : ℕ) (took : Option Took) (calls : List DeviceCall) (readings : List ℕ) (server : ServerValue) (waiting : WaitingValue) → TakesAny old.server took server → Fails life old.waiting took fault.Port calls readings waiting
+      → Steps old (record { took = took; calls = calls }) (record { server = server; waiting = waiting })
+  looks : (day at : ℕ) → IsClear old.waiting → old.waiting.durable ≤ at
+      → Steps old (record { took = None; calls = map on_store (lay_down (Looked day at)) }) (record { server = old.server; waiting = none_waits at })
+  renews : (header : Header) → IsClear old.waiting → old.waiting.durable ≤ header.last
+      → Steps old (record { took = None; calls = on_store (renewed header (live_rows old.server)) ∷ [] }) (record { server = old.server; waiting = none_waits header.last })
+
+-- A step in which the store fails, which is the last.
+pub data Ends (old : Held) : Seen → Held → Type 0 where
+  store_fails : (life : ℕ) (took : Option Took) (calls : List DeviceCall) (readings : List ℕ) (server : ServerValue) (waiting : WaitingValue) → TakesAny old.server took server → Fails life old.waiting took fault.Store calls readings waiting
+      → Ends old (record { took = took; calls = calls }) (record { server = server; waiting = waiting })
+  look_fails : (day at : ℕ) (calls : List StoreCall) → IsClear old.waiting → old.waiting.durable ≤ at → LineFails (Looked day at) calls
+      → Ends old (record { took = None; calls = map on_store calls }) (record { server = old.server; waiting = dropped (with_line (Looked day at) old.waiting) })
+  renewal_fails : (header : Header) → IsClear old.waiting → old.waiting.durable ≤ header.last → Ends old (record { took = None; calls = on_store (renew_failed header (live_rows old.server)) ∷ [] }) old
+
+pub data Runs (old : Held) : List Seen → Held → Type 0 where
+  goes_on : (seen : List Seen) (new : Held) → Chain Steps old seen new → Runs old seen new
+  ends : (seen : List Seen) (mid : Held) (last : Seen) (new : Held) → Chain Steps old seen mid → Ends mid last new → Runs old (seen ++ last ∷ []) new
+
+-- ---- what a run comes to
+
+abbrev pub calls_in : List Seen → List DeviceCall
+calls_in seen = flat_map (λ s. s.calls) seen
+
+abbrev pub turn_of : Option Took → List Turn
+turn_of None = []
+turn_of (Some took) = took.turn ∷ []
+
+abbrev pub turns_in : List Seen → List Turn
+turns_in seen = flat_map (λ s. turn_of s.took) seen
+
+abbrev pub replies_in : List Turn → List DatagramValue
+replies_in turns = map (λ reply. reply.datagram) (flat_map reply_in turns)
+
+-- the calls of the store alone
+abbrev pub stored_in : List DeviceCall → List StoreCall
+stored_in [] = []
+stored_in (on_port call ∷ calls) = stored_in calls
+stored_in (on_store call ∷ calls) = call ∷ stored_in calls
+
+-- the replies that were sent, or lost at a send that failed
+abbrev pub gone_in : List DeviceCall → List DatagramValue
+gone_in [] = []
+gone_in (on_port (sent to octets) ∷ calls) = record { route = to; octets = octets } ∷ gone_in calls
+gone_in (on_port (send_failed to octets) ∷ calls) = record { route = to; octets = octets } ∷ gone_in calls
+gone_in (call ∷ calls) = gone_in calls
+
+-- LAST of the file's header, after these calls of the store
+abbrev pub last_after : List StoreCall → (last : ℕ) → ℕ
+last_after [] last = last
+last_after (renewed header rows ∷ calls) last = last_after calls header.last
+last_after (call ∷ calls) last = last_after calls last
+
+-- LAST of the file that a crash leaves: of the one that was renewed last, if that didn't fail
+abbrev pub last_left : {kept : Kept} {calls : List StoreCall} {left : List Change} → (last : ℕ) → MayLeaveAfter kept calls left → ℕ
+last_left {calls = calls} last (first_changes may) = last_after calls last
+last_left last (new_leases before header rows calls_are left_is) = header.last
+
+-- ---- the laws
+
+-- A run begins: no reply waits, the store has the server's live leases, all of them durable and each that moved or went was there, and the server's time isn't more than 1,000 ms past
+-- the last durable one. `last` is LAST of the file's header.
+pub record Begins (kept : Kept) (last : ℕ) (held : Held) : Type 0 where
+  pub leases : IsKept (after_all kept.changes no_leases) held.server
+  pub stand : AllStand Three kept.changes no_leases
+  pub all : kept.durable ≡ length kept.changes
+  pub clear : IsClear held.waiting
+  pub durable : held.waiting.durable ≤ last_of last kept.changes
+  pub soon : held.server.last ≤ held.waiting.durable + reach
+
+-- The first list is the second but for what was left out.
+pub data LeavesOut {A : Type 0} : List A → List A → Type 0 where
+  nothing : LeavesOut [] []
+  not_this : (x : A) (xs ys : List A) → LeavesOut xs ys → LeavesOut (x ∷ xs) (x ∷ ys)
+  this : (y : A) (xs ys : List A) → LeavesOut xs ys → LeavesOut xs (y ∷ ys)
+
+-- The changes that are left have the live leases of the server after the first of these turns, whose time isn't more than 1,000 ms past
+-- the last time of what is left; each lease that they move or release was there; and the replies that left are replies of those turns, in their order: none of another turn has left.
+pub record IsEarlier (first : ServerValue) (turns : List Turn) (gone : List DatagramValue) (last : ℕ) (left : List Change) : Type 0 where
+  pub front : List Turn
+  pub back : List Turn
+  pub server : ServerValue
+  pub turns_are : turns ≡ front ++ back
+  pub run : Chain Turns first front server
+  pub leases : IsKept (after_all left no_leases) server
+  pub stand : AllStand Three left no_leases
+  pub replies : LeavesOut gone (replies_in front)
+  pub soon : server.last ≤ last_of last left + reach
+
+-- Whenever a reply is sent, all changes that were appended before are durable.
+abbrev pub NoReplyPrecedesItsChange : Type 0
+NoReplyPrecedesItsChange = (kept : Kept) (last : ℕ) (old new : Held) (seen : List Seen) → Begins kept last old → Runs old seen new
+    → (before behind : List DeviceCall) (to : Route) (octets : List ℕ) → calls_in seen ≡ before ++ on_port (sent to octets) ∷ behind
+    → (after_calls (stored_in before) kept).durable ≡ length (after_calls (stored_in before) kept).changes
+
+-- Whatever a crash leaves after any of the calls, or within one that failed, is of an earlier server, whose turns have each
+-- reply that has left.
+abbrev pub CrashLeavesAnEarlierServer : Type 0
+CrashLeavesAnEarlierServer = (kept : Kept) (last : ℕ) (old new : Held) (seen : List Seen) → Begins kept last old → Runs old seen new
+    → (before behind : List DeviceCall) (left : List Change) → calls_in seen ≡ before ++ behind → (may : MayLeaveAfter kept (stored_in before) left)
+    → IsEarlier old.server (turns_in seen) (gone_in before) (last_left last may) left
+
+-- The servers of a run are those of its turns, as without a store.
+abbrev pub ServersGoByTurns : Type 0
+ServersGoByTurns = (old new : Held) (seen : List Seen) → Runs old seen new → Chain Turns old.server (turns_in seen) new.server

@@ -1,3 +1,0 @@
--- What only the contracts of private functions cite: a caller needs none of it.
-pub mod Standing
-pub mod Starting

@@ -1,5 +1,0 @@
-pub mod Begin
-pub mod Folders
-pub mod Opening
-pub mod Running
-pub mod Inner
