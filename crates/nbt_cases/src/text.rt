@@ -47,6 +47,19 @@ impl Names {
         Ok(octets)
     }
 
+    /// These words, in each of which that is a name, its text stands for it.
+    pub fn words_of(&self, alloc: Global, text: &str) -> Result<String, AllocError> {
+        let mut words = String::new(alloc);
+        for word in text.split(" ") {
+            if !words.is_empty() {
+                words.push_str(" ")?;
+            }
+            let text = self.once(alloc, word)?;
+            words.push_str(String::from_utf8_lossy(alloc, text.as_slice())?.as_str())?;
+        }
+        Ok(words)
+    }
+
     fn push_text(&self, alloc: Global, text: &str, octets: &mut Vec<u8>) -> Result<(), AllocError> {
         for (i, part) in text.split("${").enumerate() {
             match part.split_once("}") {

@@ -8,7 +8,7 @@ mod packets;
 mod pieces;
 
 pub use limits::{config, started};
-pub use memory::{Row, clock, port, sent_all};
+pub use memory::{RoutedRow, Row, clock, port, routed_port, sent_all, sent_by_routes};
 pub use packets::{
     EVERY_KIND, FIRST, FOUND, GRANTED, NOT_FOUND, QUERY, REFRESH, REFUSED, REGISTRATION, RELEASE,
     RIVAL, SECOND, one_of_many, registration_of_many,

@@ -19,7 +19,6 @@ mod nbns;
 mod network;
 mod printing;
 mod release;
-mod replies;
 mod scans;
 mod scripts;
 mod serving;

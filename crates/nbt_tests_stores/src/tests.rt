@@ -20,6 +20,7 @@ mod older;
 mod outlasting;
 mod restarts;
 mod resuming;
+mod routes;
 mod stage;
 mod store;
 mod telling;

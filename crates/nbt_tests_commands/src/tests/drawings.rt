@@ -1,7 +1,7 @@
 //! Pictures of scripts that end early, and of none. `nbt_cases` plays the others.
 
 use super::expect::{expect, expect_eq};
-use nbt_picture::draw;
+use nbt_sim::draw;
 use std::process::Abort;
 
 /// Draws a script, in place of what is there, which ends at this line.

@@ -1,67 +1,10 @@
-//! Numbers, addresses, times, octets and lines as text.
+//! Octets and lines as text. What numbers, times, addresses and names come to is in the scenes of nbt_cases.
 
 use super::expect::{expect, expect_eq};
 use hex::FromHexError;
-use nbt_explain::read_digits;
-use nbt_name::Addr;
-use nbt_text::{
-    NEWLINE, digits_of, end_line, lines_of, parse_address, parse_number, read_address,
-    read_duration, words_said, write_address,
-};
+use nbt_show::read_digits;
+use nbt_text::{NEWLINE, digits_of, end_line, lines_of, words_said};
 use std::process::Abort;
-
-/// Numbers are digits alone.
-static NUMBERS: [(&[u8], Option<u64>); 5] = [
-    (b"007", Some(7)),
-    (b"+7", None),
-    (b"", None),
-    (b"7 ", None),
-    (b"\xff", None),
-];
-
-/// Times with their units, in milliseconds.
-static TIMES: [(&str, Option<u64>); 18] = [
-    ("5m", Some(300_000)),
-    ("300s", Some(300_000)),
-    ("1500ms", Some(1_500)),
-    ("0s", Some(0)),
-    ("007ms", Some(7)),
-    ("18446744073709551615ms", Some(u64::MAX)),
-    ("18446744073709551616ms", None),
-    ("307445734561825m", Some(18_446_744_073_709_500_000)),
-    ("307445734561826m", None),
-    ("5", None),
-    ("ms", None),
-    ("5h", None),
-    ("5S", None),
-    ("5 s", None),
-    ("5sm", None),
-    ("-5s", None),
-    ("+5s", None),
-    ("", None),
-];
-
-/// Addresses with and without a port, and how they are printed.
-static ADDRESSES: [(&str, &str); 9] = [
-    ("192.0.2.7", "192.0.2.7:137"),
-    ("192.0.2.7:10137", "192.0.2.7:10137"),
-    ("192.0.2.7:0", "192.0.2.7:0"),
-    ("192.0.2.7:", "none"),
-    ("192.0.2.7:137:137", "none"),
-    ("192.0.2", "none"),
-    ("192.0.2.256", "none"),
-    ("filer", "none"),
-    ("", "none"),
-];
-
-fn expect_address<R: Abort + AllocGlobal>(rt: &R, word: &str, expected: &str, text: &mut String) {
-    text.clear();
-    match read_address(rt.alloc(), word).expect(rt, "memory") {
-        Some(address) => write_address(address, text).expect(rt, "memory"),
-        None => text.push_str("none").expect(rt, "memory"),
-    }
-    expect_eq(rt, &word, &text.as_str(), &expected);
-}
 
 /// Words, and their digits after `hex:`.
 static AFTER_HEX: [(&[u8], Option<&[u8]>); 6] = [
@@ -154,30 +97,8 @@ fn expect_said<R: Abort + AllocGlobal>(rt: &R, input: &[u8], wanted: &str, text:
 }
 
 #[test]
-fn numbers_octets_and_lines_as_text(rt: HostRuntime) {
-    for row in &NUMBERS {
-        let (text, number) = *row;
-        expect(&rt, &text, parse_number(text) == number);
-    }
-    for row in &TIMES {
-        let (text, expected) = *row;
-        expect(&rt, &text, read_duration(text.as_bytes()) == expected);
-    }
-    let address = Addr {
-        ip: 0xC612_8901,
-        port: 137,
-    };
-    expect(
-        &rt,
-        &"137",
-        parse_address("198.18.137.1:137") == Some(address),
-    );
-    expect(&rt, &"01", parse_address("198.18.137.01:137").is_none());
+fn octets_and_lines_as_text(rt: HostRuntime) {
     let mut text = String::new(rt.alloc());
-    for row in &ADDRESSES {
-        let (word, expected) = *row;
-        expect_address(&rt, word, expected, &mut text);
-    }
     expect_digits(&rt);
     for row in &LINES {
         let (input, wanted) = *row;

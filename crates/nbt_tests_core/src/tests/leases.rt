@@ -1,4 +1,4 @@
-//! Leases over time: the rows of our profile, and memory refused at each growth. A datagram lives 1,000 ms at most, and
+//! Limits and moments, a full table, and memory refused at each growth. Leases over time are in the scenes of nbt_cases. A datagram lives 1,000 ms at most, and
 //! the longest lease is 60 s.
 
 ghost use Rattle.std.specs.Prelude.{◌≤◌};
@@ -6,15 +6,11 @@ ghost use Rattle.std.specs.Prelude.{◌≤◌};
 use super::expect::{expect, expect_eq, expect_eq_in, expect_in};
 use super::{FRED, TEAM, at, name_of};
 use arrayvec::ArrayVec;
-use nbt_lease::{Config, ConfigFault, Grant, GrantFault, Moment, Released, Table, laws};
+use nbt_lease::{Config, ConfigFault, Grant, GrantFault, Moment, Table, laws};
 use nbt_name::{Kind, Name};
 use std::process::Abort;
 
 const FIRST: u32 = 0x7F000002;
-
-const SECOND: u32 = 0x7F000003;
-
-const THIRD: u32 = 0x7F000004;
 
 /// What is asked of a table at a moment, and what has to come of it. A grant gives its seconds and its end, or why not.
 #[derive(Clone, Copy)]
@@ -27,20 +23,10 @@ enum Step<'a> {
     Grow(u64, &'a [u8; 16], u32, Kind, u32, Result<(u32, u64), GrantFault>),
     /// The same as by `Join`, but memory may be refused.
     JoinGrowing(u64, u32, Result<(u32, u64), GrantFault>),
-    /// FRED is released by an address.
-    Release(u64, u32, Released),
-    /// TEAM is released by an address.
-    Leave(u64, u32, Released),
-    /// What is over is taken out.
-    Sweep(u64),
     /// The least end of a name's leases.
     LeastEnd(u64, &'a [u8; 16], Option<u64>),
-    /// The least end of TEAM's leases but the first ones, of which there are this many.
-    LeastEndAfter(u64, usize, Option<u64>),
     /// The addresses and ends of a name's leases.
     Members(u64, &'a [u8; 16], &'a [(u32, u64)]),
-    /// Whether an address has at least so many live leases.
-    HasAtLeast(u64, u32, u32, bool),
 }
 
 /// The addresses and ends of a name's leases.
@@ -91,58 +77,18 @@ fn go(rt: &impl Abort, place: &Place<'_>, table: &mut Table, step: &Step<'_>) {
     }
 }
 
-/// The name is released by an address.
-fn release(
-    rt: &impl Abort,
-    place: &Place<'_>,
-    table: &mut Table,
-    ms: u64,
-    octets: &[u8; 16],
-    addr: u32,
-    expected: Released,
-) {
-    let name = name_of(rt, octets);
-    let now = later(rt, table, ms);
-    let released = table.release(now, &name, addr);
-    expect_eq_in(rt, place, &released, &expected);
-}
-
 /// The steps that take no memory.
 fn ask(rt: &impl Abort, place: &Place<'_>, table: &mut Table, step: &Step<'_>) {
     match *step {
-        Step::Release(ms, addr, expected) => {
-            release(rt, place, table, ms, FRED, addr, expected);
-        }
-        Step::Leave(ms, addr, expected) => {
-            release(rt, place, table, ms, TEAM, addr, expected);
-        }
-        Step::Sweep(ms) => {
-            let now = later(rt, table, ms);
-            table.sweep(now);
-            expect_in(rt, place, table.last() == now);
-        }
         Step::LeastEnd(ms, octets, expected) => {
             let now = later(rt, table, ms);
             let end = table.least_end(now, &name_of(rt, octets));
             expect_eq_in(rt, place, &end, &expected);
         }
-        Step::LeastEndAfter(ms, count, expected) => {
-            let now = later(rt, table, ms);
-            let team = name_of(rt, TEAM);
-            let mut members = table.members(now, &team);
-            for _ in 0..count {
-                members.next();
-            }
-            expect_eq_in(rt, place, &members.least_end(), &expected);
-        }
         Step::Members(ms, octets, expected) => {
             let now = later(rt, table, ms);
             let leases = leases(rt, table, now, &name_of(rt, octets));
             expect_eq_in(rt, place, &leases.as_slice(), &expected);
-        }
-        Step::HasAtLeast(ms, addr, count, expected) => {
-            let has = table.has_at_least(at(rt, ms), addr, count);
-            expect_eq_in(rt, place, &has, &expected);
         }
         _ => panic!(rt; "a step that grants"),
     }
@@ -300,253 +246,8 @@ fn what_a_node_allows_for_clocks_that_drift(rt: HostRuntime) {
     laws::drift_bound_of_moves();
 }
 
-const FRED_BELONGS_TO_ITS_OWNER_UNTIL_120_000: &[Step<'static>] = &[
-    Step::Grant(60_000, FRED, FIRST, Kind::Unique, 0, Ok((60, 120_000))),
-    Step::Grant(
-        60_000,
-        FRED,
-        SECOND,
-        Kind::Unique,
-        60,
-        Err(GrantFault::Active),
-    ),
-    Step::Grant(61_000, FRED, FIRST, Kind::Unique, 10, Ok((10, 120_000))),
-    Step::Grant(
-        62_000,
-        FRED,
-        FIRST,
-        Kind::Group,
-        60,
-        Err(GrantFault::Active),
-    ),
-    Step::LeastEnd(119_999, FRED, Some(120_000)),
-    Step::LeastEnd(120_000, FRED, None),
-    Step::Grant(
-        119_999,
-        FRED,
-        SECOND,
-        Kind::Unique,
-        60,
-        Err(GrantFault::Active),
-    ),
-    Step::Grant(
-        120_000,
-        FRED,
-        SECOND,
-        Kind::Unique,
-        u32::MAX,
-        Ok((60, 180_000)),
-    ),
-];
-
-const RELEASE_BY_THE_OWNER_ALONE: &[Step<'static>] = &[
-    Step::Grant(60_000, FRED, FIRST, Kind::Unique, 60, Ok((60, 120_000))),
-    Step::Release(70_000, SECOND, Released::OfOthers),
-    Step::Release(70_000, FIRST, Released::Gone),
-    Step::Release(70_000, FIRST, Released::NoLease),
-];
-
-const MEMBERS_IN_ORDER_OF_THEIR_BEGINNINGS: &[Step<'static>] = &[
-    Step::Grant(60_000, TEAM, FIRST, Kind::Group, 50, Ok((50, 110_000))),
-    Step::Grant(60_000, FRED, SECOND, Kind::Unique, 60, Ok((60, 120_000))),
-    Step::Grant(60_000, TEAM, SECOND, Kind::Group, 20, Ok((20, 80_000))),
-    Step::Grant(60_500, TEAM, FIRST, Kind::Group, 60, Ok((60, 120_500))),
-    Step::Sweep(60_500),
-    Step::Members(60_500, TEAM, &[(FIRST, 120_500), (SECOND, 80_000)]),
-    Step::LeastEnd(60_500, TEAM, Some(80_000)),
-];
-
-/// The member with the least end is renewed, then released, then its lease ends; and one that has a later end is.
-const THE_LEAST_END_OF_A_GROUP: &[Step<'static>] = &[
-    Step::Grant(60_000, TEAM, 1, Kind::Group, 10, Ok((10, 70_000))),
-    Step::Grant(60_000, TEAM, 2, Kind::Group, 20, Ok((20, 80_000))),
-    Step::Grant(60_000, TEAM, 3, Kind::Group, 15, Ok((15, 75_000))),
-    Step::Grant(60_000, TEAM, 4, Kind::Group, 40, Ok((40, 100_000))),
-    Step::LeastEnd(60_000, TEAM, Some(70_000)),
-    Step::LeastEndAfter(60_000, 0, Some(70_000)),
-    Step::LeastEndAfter(60_000, 1, Some(75_000)),
-    Step::LeastEndAfter(60_000, 3, Some(100_000)),
-    Step::LeastEndAfter(60_000, 4, None),
-    // A renewal of it, and of one that ends later.
-    Step::Grant(61_000, TEAM, 1, Kind::Group, 60, Ok((60, 121_000))),
-    Step::LeastEnd(61_000, TEAM, Some(75_000)),
-    Step::Grant(61_000, TEAM, 2, Kind::Group, 30, Ok((30, 91_000))),
-    Step::LeastEnd(61_000, TEAM, Some(75_000)),
-    // A release of another, which is none of the group, and of it.
-    Step::Leave(62_000, 5, Released::OfOthers),
-    Step::LeastEnd(62_000, TEAM, Some(75_000)),
-    Step::Leave(62_000, 3, Released::Gone),
-    Step::LeastEnd(62_000, TEAM, Some(91_000)),
-    // Two end at once; one is released.
-    Step::Grant(71_000, TEAM, 6, Kind::Group, 20, Ok((20, 91_000))),
-    Step::Leave(71_000, 2, Released::Gone),
-    Step::LeastEnd(71_000, TEAM, Some(91_000)),
-    // It is over: not yet taken out, and taken out.
-    Step::LeastEnd(91_000, TEAM, Some(100_000)),
-    Step::LeastEndAfter(91_000, 1, Some(100_000)),
-    Step::Sweep(91_000),
-    Step::LeastEnd(91_000, TEAM, Some(100_000)),
-    Step::Members(91_000, TEAM, &[(1, 121_000), (4, 100_000)]),
-    // The last ones go.
-    Step::Leave(92_000, 4, Released::Gone),
-    Step::LeastEnd(92_000, TEAM, Some(121_000)),
-    Step::Leave(92_000, 1, Released::Gone),
-    Step::LeastEnd(92_000, TEAM, None),
-];
-
-/// The 1,000th member's end is the least; it is renewed, the 999th's is it then, and all the others' once that is released.
-const THE_LEAST_END_OF_1_000: &[Step<'static>] = &[
-    Step::Join(60_000, 998, Ok((60, 120_000))),
-    Step::Grant(60_000, TEAM, 999, Kind::Group, 30, Ok((30, 90_000))),
-    Step::Grant(60_000, TEAM, 1_000, Kind::Group, 20, Ok((20, 80_000))),
-    Step::Grant(
-        60_000,
-        TEAM,
-        1_001,
-        Kind::Group,
-        10,
-        Err(GrantFault::GroupFull),
-    ),
-    Step::LeastEnd(60_000, TEAM, Some(80_000)),
-    Step::Grant(61_000, TEAM, 1_000, Kind::Group, 60, Ok((60, 121_000))),
-    Step::LeastEnd(61_000, TEAM, Some(90_000)),
-    Step::Leave(61_000, 999, Released::Gone),
-    Step::LeastEnd(61_000, TEAM, Some(120_000)),
-    Step::Join(62_000, 998, Ok((60, 122_000))),
-    Step::LeastEnd(62_000, TEAM, Some(121_000)),
-    Step::Sweep(121_000),
-    Step::LeastEnd(121_000, TEAM, Some(122_000)),
-];
-
-const A_GROUP_OF_1_000_IS_FULL_BEFORE_A_TABLE_OF_1_000: &[Step<'static>] = &[
-    Step::Join(60_000, 1_000, Ok((60, 120_000))),
-    Step::Grant(
-        60_000,
-        TEAM,
-        1_001,
-        Kind::Group,
-        60,
-        Err(GrantFault::GroupFull),
-    ),
-    Step::Grant(61_000, TEAM, 1_000, Kind::Group, 60, Ok((60, 121_000))),
-    Step::LeastEnd(61_000, TEAM, Some(120_000)),
-    Step::Grant(
-        61_000,
-        FRED,
-        1_001,
-        Kind::Unique,
-        60,
-        Err(GrantFault::TableFull),
-    ),
-    // The 1,000th alone lives on.
-    Step::LeastEnd(120_000, TEAM, Some(121_000)),
-    Step::Members(120_000, TEAM, &[(1_000, 121_000)]),
-];
-
-const A_TABLE_OF_999_IS_FULL_BEFORE_A_GROUP_OF_1_000: &[Step<'static>] = &[
-    Step::Join(60_000, 999, Ok((60, 120_000))),
-    Step::Grant(
-        60_000,
-        TEAM,
-        1_000,
-        Kind::Group,
-        60,
-        Err(GrantFault::TableFull),
-    ),
-];
-
-const A_TABLE_OF_ONE_LEASE_HAS_ROOM_ONCE_IT_IS_OVER: &[Step<'static>] = &[
-    Step::Grant(60_000, FRED, FIRST, Kind::Unique, 60, Ok((60, 120_000))),
-    Step::Grant(
-        119_999,
-        TEAM,
-        FIRST,
-        Kind::Group,
-        60,
-        Err(GrantFault::TableFull),
-    ),
-    Step::Grant(120_000, TEAM, FIRST, Kind::Group, 60, Ok((60, 180_000))),
-];
-
-/// What the steps show, the rows of the table, and the steps. A function returns them, since the prover writes out all of a table in
-/// each step of a function that names it.
-type Case = (&'static str, usize, &'static [Step<'static>]);
-
-/// A lease that is over counts no more, also while its row still stands; other addresses count for themselves.
-const LEASES_OF_AN_ADDRESS: &[Step<'static>] = &[
-    Step::HasAtLeast(60_000, FIRST, 0, true),
-    Step::HasAtLeast(60_000, FIRST, 1, false),
-    Step::Grant(60_000, FRED, FIRST, Kind::Unique, 10, Ok((10, 70_000))),
-    Step::Grant(60_000, TEAM, FIRST, Kind::Group, 60, Ok((60, 120_000))),
-    Step::Grant(60_000, TEAM, SECOND, Kind::Group, 60, Ok((60, 120_000))),
-    Step::HasAtLeast(60_000, FIRST, 2, true),
-    Step::HasAtLeast(60_000, FIRST, 3, false),
-    Step::HasAtLeast(60_000, SECOND, 1, true),
-    Step::HasAtLeast(60_000, SECOND, 2, false),
-    Step::HasAtLeast(60_000, THIRD, 1, false),
-    Step::HasAtLeast(69_999, FIRST, 2, true),
-    Step::HasAtLeast(70_000, FIRST, 2, false),
-    Step::HasAtLeast(70_000, FIRST, 1, true),
-    Step::Leave(70_000, SECOND, Released::Gone),
-    Step::HasAtLeast(70_000, SECOND, 1, false),
-    Step::HasAtLeast(119_999, FIRST, 1, true),
-    Step::HasAtLeast(120_000, FIRST, 1, false),
-    Step::HasAtLeast(120_000, FIRST, 0, true),
-];
-
-const CASES: &[Case] = &[
-    (
-        "FRED belongs to its owner until 120,000",
-        4096,
-        FRED_BELONGS_TO_ITS_OWNER_UNTIL_120_000,
-    ),
-    (
-        "release by the owner alone",
-        4096,
-        RELEASE_BY_THE_OWNER_ALONE,
-    ),
-    (
-        "members in order of their beginnings",
-        4096,
-        MEMBERS_IN_ORDER_OF_THEIR_BEGINNINGS,
-    ),
-    ("the least end of a group", 4096, THE_LEAST_END_OF_A_GROUP),
-    ("the least end of 1,000", 4096, THE_LEAST_END_OF_1_000),
-    (
-        "a group of 1,000 is full before a table of 1,000",
-        1_000,
-        A_GROUP_OF_1_000_IS_FULL_BEFORE_A_TABLE_OF_1_000,
-    ),
-    (
-        "a table of 999 is full before a group of 1,000",
-        999,
-        A_TABLE_OF_999_IS_FULL_BEFORE_A_GROUP_OF_1_000,
-    ),
-    (
-        "a table of one lease has room once it is over",
-        1,
-        A_TABLE_OF_ONE_LEASE_HAS_ROOM_ONCE_IT_IS_OVER,
-    ),
-    (
-        "how many live leases an address has",
-        4096,
-        LEASES_OF_AN_ADDRESS,
-    ),
-];
-
-fn cases() -> &'static [Case] {
-    CASES
-}
-
-/// A new table goes through the steps of a case.
-fn play_case<R: Abort + AllocGlobal>(rt: &R, case: &Case) {
-    let mut table = table(rt, case.1);
-    expect_eq(rt, &table.config().rows(), &case.1);
-    play(rt, case.0, &mut table, case.2)
-}
-
 #[test]
-fn names_and_their_leases_step_by_step(rt: HostRuntime) {
+fn laws_of_leases(_rt: HostRuntime) {
     laws::same_leases_same_count();
     laws::same_leases_later();
     laws::later_leases_live_now();
@@ -556,9 +257,6 @@ fn names_and_their_leases_step_by_step(rt: HostRuntime) {
     laws::one_case_stands();
     laws::leases_of_others_stay();
     laws::granted_lease_stands();
-    for case in cases() {
-        play_case(&rt, case);
-    }
 }
 
 /// One of 65,536 names.

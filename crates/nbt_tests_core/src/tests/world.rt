@@ -1,15 +1,11 @@
-//! Worlds, event by event, with what comes of each: a server at 127.0.0.1, nodes at 127.0.0.2 and 127.0.0.3, the life of a
+//! Worlds in runs of events, and where memory is refused: a server at 127.0.0.1, nodes at 127.0.0.2 and 127.0.0.3, the life of a
 //! datagram 1,000 ms, the longest lease 60 s.
 
 use super::expect::{expect, expect_eq, expect_eq_in};
-use Does::{
-    Advance, Ask, Crash, Deliver, Join, NameStatus, Poll, Release, Resolve, Resume, Start,
-    Stranger, Tick,
-};
-use nbt_lease::Config;
+use Does::{Ask, Crash, Deliver, Join, NameStatus, Poll, Release, Resolve, Start, Stranger, Tick};
 use nbt_name::{Addr, Kind, Name};
-use nbt_testing::{EVERY_KIND, REGISTRATION, config, octets, registration_of_many};
-use nbt_world::Outcome::{self, Done, Down, Lost, Nobody, Nothing, Refused, Sent, Taken};
+use nbt_testing::{REGISTRATION, config, octets, registration_of_many};
+use nbt_world::Outcome::{self, Done, Lost, Nothing, Sent, Taken};
 use nbt_world::{Event, OutOfMemory, World};
 use std::process::Abort;
 
@@ -30,15 +26,10 @@ const SECOND: Addr = Addr {
 
 const ENDS: [Addr; 3] = [SERVER, FIRST, SECOND];
 
-/// An address that is no end's, and one that is an end's but for its port.
+/// An address that is no end's.
 const STRANGER: Addr = Addr {
     ip: 0x0A000001,
     port: 137,
-};
-
-const OTHER_PORT: Addr = Addr {
-    ip: 0x7F000002,
-    port: 9,
 };
 
 const FRED: &[u8; 16] = b"FRED            ";
@@ -50,10 +41,8 @@ const TEAM: &[u8; 16] = b"TEAM            ";
 #[derive(Clone, Copy)]
 enum Does {
     Tick(u64),
-    Advance(u64, [u64; 9]),
     Start(usize),
     Crash(usize),
-    Resume,
     Ask(usize, &'static [u8; 16]),
     Join(usize, &'static [u8; 16]),
     Release(usize, &'static [u8; 16]),
@@ -84,10 +73,8 @@ fn asks(node: usize, name: Name, kind: Kind) -> Event {
 fn event_of<R: Abort + AllocGlobal>(rt: &R, does: Does, name: Name) -> Event {
     match does {
         Tick(ms) => Event::Tick(ms),
-        Advance(ms, readings) => Event::Advance { ms, readings },
         Start(end) => Event::Start(end),
         Crash(end) => Event::Crash(end),
-        Resume => Event::Resume,
         Ask(node, _) => asks(node, name, Kind::Unique),
         Join(node, _) => asks(node, name, Kind::Group),
         Release(node, _) => Event::Release { node, name },
@@ -153,26 +140,6 @@ fn holders(rt: &impl Abort, what: &str, world: &World, name: &[u8; 16], nodes: &
 /// Rows, and the nodes that hold FRED after them.
 type Held = (&'static [Row], &'static [usize]);
 
-const CRASHED: [Row; 17] = [
-    (Start(0), Done),
-    (Start(1), Done),
-    (Tick(100_000), Done),
-    (Ask(1, FRED), Sent(0)),
-    (Crash(1), Done),
-    (Tick(1), Done),
-    (Start(1), Done),
-    (Tick(999), Done),
-    (Deliver(0), Sent(1)),
-    (Tick(3), Done),
-    (Deliver(1), Taken),
-    (Ask(1, FRED), Refused(1)),
-    (Tick(1_002), Done),
-    (Ask(1, FRED), Refused(1)),
-    (Tick(1), Done),
-    (Deliver(1), Lost),
-    (Ask(1, FRED), Sent(2)),
-];
-
 const ASKED: [Row; 7] = [
     (Start(0), Done),
     (Start(1), Done),
@@ -181,49 +148,6 @@ const ASKED: [Row; 7] = [
     (Ask(1, FRED), Sent(0)),
     (Deliver(0), Sent(1)),
     (Deliver(1), Taken),
-];
-
-const RELEASED: [Row; 9] = [
-    (Tick(10_000), Done),
-    (Release(1, FRED), Sent(2)),
-    (Tick(500), Done),
-    (Ask(1, FRED), Refused(1)),
-    (Tick(500), Done),
-    (Deliver(2), Sent(3)),
-    (Ask(2, FRED), Sent(4)),
-    (Deliver(4), Sent(5)),
-    (Deliver(5), Taken),
-];
-
-const ASKED_AGAIN: [Row; 8] = [
-    (Deliver(3), Taken),
-    (Tick(1_004), Done),
-    (Deliver(2), Lost),
-    (Ask(1, FRED), Refused(1)),
-    (Tick(1), Done),
-    (Ask(1, FRED), Sent(6)),
-    (Deliver(6), Sent(7)),
-    (Deliver(7), Taken),
-];
-
-const IN_ITS_LAST_MOMENT: [Row; 1] = [(Tick(59_877), Done)];
-
-const AFTER_ITS_HOLD: [Row; 1] = [(Tick(1), Done)];
-
-/// The second node asks at 119,999, and the server refuses it.
-const BEFORE_THE_LEASE_ENDS: [Row; 4] = [
-    (Tick(121), Done),
-    (Ask(2, FRED), Sent(2)),
-    (Deliver(2), Sent(3)),
-    (Deliver(3), Taken),
-];
-
-/// The second node asks at 120,000, and is granted the name.
-const WHERE_THE_LEASE_ENDS: [Row; 4] = [
-    (Tick(122), Done),
-    (Ask(2, FRED), Sent(2)),
-    (Deliver(2), Sent(3)),
-    (Deliver(3), Taken),
 ];
 
 /// What is polled 30 seconds after the last sending is the refresh; it goes there and back.
@@ -290,60 +214,8 @@ fn a_run_in_which_a_node_renews_goes_on_to_its_end(rt: HostRuntime) {
     run_parts(&rt, &mut world(&rt), &RENEWING)
 }
 
-const STRANGERS: [Row; 9] = [
-    (Start(0), Done),
-    (Stranger(STRANGER, 0, "00"), Taken),
-    (Stranger(OTHER_PORT, 0, "00"), Nobody),
-    (Stranger(STRANGER, 1, "00"), Down),
-    (Stranger(STRANGER, 3, "00"), Nobody),
-    (Tick(60_000), Done),
-    (Stranger(STRANGER, 0, REGISTRATION), Sent(0)),
-    (Deliver(0), Nobody),
-    (Deliver(9), Nobody),
-];
-
-/// These octets come from the stranger 127.0.0.2 to an end: they are taken, and not replied to.
-fn cut_one<R: Abort + AllocGlobal>(rt: &R, world: &mut World, to: usize, came: &[u8]) {
-    let event = Event::Stranger {
-        from: FIRST,
-        to,
-        octets: Vec::from_slice(rt.alloc(), came).expect(rt, "memory"),
-    };
-    let got = world.step(&event).expect(rt, "step");
-    expect_eq_in(rt, &came, &got, &Taken);
-}
-
-/// So is a packet that is cut to each shorter length.
-fn cut_each<R: Abort + AllocGlobal>(rt: &R, world: &mut World, to: usize, whole: &[u8]) {
-    for length in 0..whole.len() {
-        cut_one(rt, world, to, &whole[..length]);
-    }
-}
-
-/// So are the packets of every kind.
-fn cut<R: Abort + AllocGlobal>(rt: &R, world: &mut World, to: usize) {
-    for words in &EVERY_KIND {
-        let whole = octets(rt, words).expect(rt, "octets");
-        cut_each(rt, world, to, whole.as_slice());
-    }
-}
-
 /// Of a server and the node at 127.0.0.3.
 const UP: [Row; 3] = [(Start(0), Done), (Start(1), Done), (Tick(60_000), Done)];
-
-const FREE: [Row; 3] = [
-    (Ask(1, FRED), Sent(0)),
-    (Deliver(0), Sent(1)),
-    (Deliver(1), Taken),
-];
-
-const HELD: [Row; 3] = [
-    (Tick(59_877), Done),
-    (Stranger(FIRST, 0, REGISTRATION), Sent(2)),
-    (Stranger(FIRST, 1, STATUS_REQUEST), Sent(3)),
-];
-
-const STATUS_REQUEST: &str = "0009 0000 one-name STAR NBSTAT";
 
 /// A world without a node at 127.0.0.2, where a stranger is.
 const BESIDE_A_STRANGER: [Addr; 2] = [SERVER, SECOND];
@@ -355,447 +227,6 @@ fn with_a_stranger<R: Abort + AllocGlobal>(rt: &R) -> World {
         &BESIDE_A_STRANGER,
     )
     .expect(rt, "a world")
-}
-
-const GROUP: [Row; 10] = [
-    (Start(0), Done),
-    (Start(1), Done),
-    (Start(2), Done),
-    (Tick(60_000), Done),
-    (Join(1, TEAM), Sent(0)),
-    (Join(2, TEAM), Sent(1)),
-    (Deliver(0), Sent(2)),
-    (Deliver(1), Sent(3)),
-    (Deliver(2), Taken),
-    (Deliver(3), Taken),
-];
-
-/// These nodes hold TEAM, each as a group.
-fn expect_group(rt: &impl Abort, what: &str, world: &World, nodes: &[usize]) {
-    holders(rt, what, world, TEAM, nodes);
-    let holders = world.holders(&Name::new(TEAM, b"").expect(rt, "a name"));
-    for holder in holders.as_slice() {
-        expect_eq_in(rt, &what, &holder.kind, &Kind::Group);
-    }
-}
-
-const LOOKUPS: [Row; 9] = [
-    (Start(0), Done),
-    (Start(1), Done),
-    (Tick(60_000), Done),
-    (Resolve(1, FRED), Sent(0)),
-    (Resolve(1, FRED), Refused(2)),
-    (Deliver(0), Sent(1)),
-    (Deliver(1), Taken),
-    (NameStatus(1, SECOND, FRED), Sent(2)),
-    (Deliver(2), Down),
-];
-
-const SILENT: [Row; 14] = [
-    (Start(0), Done),
-    (Start(1), Done),
-    (Start(2), Done),
-    (Tick(69_999), Done),
-    (Ask(1, FRED), Sent(0)),
-    (Deliver(0), Sent(1)),
-    (Deliver(1), Taken),
-    (Tick(1), Done),
-    (Crash(0), Done),
-    (Crash(0), Nothing),
-    (Deliver(0), Down),
-    (Start(0), Done),
-    (Start(0), Nothing),
-    (Tick(59_876), Done),
-];
-
-const ENDED: [Row; 1] = [(Tick(1), Done)];
-
-const STILL_SILENT: [Row; 5] = [
-    (Tick(121), Done),
-    (Ask(2, FRED), Sent(2)),
-    (Deliver(2), Taken),
-    (Tick(1), Done),
-    (Deliver(2), Taken),
-];
-
-const HEARD: [Row; 3] = [(Tick(1), Done), (Deliver(2), Sent(3)), (Deliver(3), Taken)];
-
-const NO_SUCH_NODES: [Row; 7] = [
-    (Start(5), Nothing),
-    (Crash(5), Nothing),
-    (Ask(5, FRED), Down),
-    (Ask(0, FRED), Down),
-    (Start(1), Done),
-    (Poll(1), Nothing),
-    (Poll(2), Down),
-];
-
-/// The world has the ends 0, 1 and 2, which all read what the true clock shows.
-const READINGS_OF_ENDS_THAT_THE_WORLD_HAS_NOT: [Row; 6] = [
-    (
-        Advance(
-            30_000,
-            [30_000, 30_000, 30_000, 0, 1, 90_000, 60_000, 2, u64::MAX],
-        ),
-        Done,
-    ),
-    (Start(0), Done),
-    (Start(1), Done),
-    (
-        Advance(
-            60_000,
-            [60_000, 60_000, 60_000, u64::MAX, 0, 0, 1_000, 90_000, 0],
-        ),
-        Done,
-    ),
-    (Ask(1, FRED), Sent(0)),
-    (Deliver(0), Sent(1)),
-];
-
-const TAKEN_BY_THE_END_THAT_IS_THERE: [Row; 1] = [(Deliver(1), Taken)];
-
-/// The first node reads a second more than the true clock shows, and the server a second less.
-const READINGS_OF_ITS_ENDS: [Row; 1] = [(
-    Advance(1_000, [0, 2_000, 1_000, 0, 0, 0, 0, 0, 0]),
-    Done,
-)];
-
-/// The server's clock stands from 60,000 on, while the true one and the nodes' come to 160,000.
-const WHILE_THE_SERVER_STANDS: [Row; 1] = [(
-    Advance(100_000, [0, 100_000, 100_000, 0, 0, 0, 0, 0, 0]),
-    Done,
-)];
-
-/// The second node asks, and is refused, since the lease lives by the server's clock.
-const REFUSED_WHILE_IT_STANDS: [Row; 3] = [
-    (Ask(2, FRED), Sent(2)),
-    (Deliver(2), Sent(3)),
-    (Deliver(3), Taken),
-];
-
-/// The server's clock goes on, and at its 120,000 it grants the name to the second node.
-const GRANTED_ONCE_IT_GOES_ON: [Row; 4] = [
-    (Tick(60_000), Done),
-    (Ask(2, FRED), Sent(4)),
-    (Deliver(4), Sent(5)),
-    (Deliver(5), Taken),
-];
-
-/// The server's clock makes up for the time for which it stood.
-const CAUGHT_UP: [Row; 1] = [(
-    Advance(100_000, [200_000, 100_000, 100_000, 0, 0, 0, 0, 0, 0]),
-    Done,
-)];
-
-const UP_WITH_TWO_NODES: [Row; 3] = [(Start(0), Done), (Start(1), Done), (Start(2), Done)];
-
-/// The first node is granted FRED, and refused TEAM, which the second is granted.
-const ONE_NAME_EACH: [Row; 10] = [
-    (Tick(60_000), Done),
-    (Ask(1, FRED), Sent(0)),
-    (Deliver(0), Sent(1)),
-    (Deliver(1), Taken),
-    (Join(1, TEAM), Sent(2)),
-    (Deliver(2), Sent(3)),
-    (Deliver(3), Taken),
-    (Join(2, TEAM), Sent(4)),
-    (Deliver(4), Sent(5)),
-    (Deliver(5), Taken),
-];
-
-/// A server that resumes limits its clients as before.
-const ONE_NAME_STILL: [Row; 6] = [
-    (Crash(0), Done),
-    (Resume, Done),
-    (Tick(2_005), Done),
-    (Join(1, TEAM), Sent(6)),
-    (Deliver(6), Sent(7)),
-    (Deliver(7), Taken),
-];
-
-/// One that starts anew has no limit.
-const NO_LIMIT: [Row; 9] = [
-    (Crash(0), Done),
-    (Start(0), Done),
-    (Tick(60_000), Done),
-    (Ask(1, FRED), Sent(8)),
-    (Join(1, TEAM), Sent(9)),
-    (Deliver(8), Sent(10)),
-    (Deliver(9), Sent(11)),
-    (Deliver(10), Taken),
-    (Deliver(11), Taken),
-];
-
-/// What happens in a world, and what is so after it.
-#[derive(Clone, Copy)]
-enum Part {
-    /// Events happen.
-    Rows(&'static [Row]),
-    /// Events happen, and then these nodes hold FRED, and so on.
-    Held(&'static [Held]),
-    /// These nodes hold TEAM, each as a group.
-    Team(&'static [usize]),
-    /// The true clock shows this, and the readings of the ends kept within their bound, or they didn't.
-    Clock(u64, bool),
-    /// No end's clock was too fast so far, and no node's too slow, or one was.
-    Timely(bool),
-    /// Packets of every kind, cut to each shorter length, come from the stranger 127.0.0.2 to an end.
-    Cut(usize),
-    /// From now on a client may have so many names, if the server is up, which is said.
-    Limit(u32, bool),
-}
-
-fn play_held<R: Abort + AllocGlobal>(rt: &R, what: &str, world: &mut World, parts: &[Held]) {
-    for (rows, nodes) in parts {
-        play(rt, what, world, rows);
-        holders(rt, what, world, FRED, nodes);
-    }
-}
-
-fn play_part<R: Abort + AllocGlobal>(rt: &R, what: &str, world: &mut World, part: &Part) {
-    match *part {
-        Part::Rows(rows) => play(rt, what, world, rows),
-        Part::Held(parts) => play_held(rt, what, world, parts),
-        Part::Team(nodes) => expect_group(rt, what, world, nodes),
-        Part::Clock(ms, kept) => {
-            expect_eq_in(rt, &what, &world.clock().get(), &ms);
-            expect_eq_in(rt, &what, &world.kept(), &kept);
-        }
-        Part::Timely(timely) => expect_eq_in(rt, &what, &world.timely(), &timely),
-        Part::Cut(to) => cut(rt, world, to),
-        Part::Limit(rows, is_up) => {
-            expect_eq_in(rt, &what, &world.limit_clients(rows), &is_up);
-        }
-    }
-}
-
-fn play_parts<R: Abort + AllocGlobal>(rt: &R, what: &str, world: &mut World, parts: &[Part]) {
-    for part in parts {
-        play_part(rt, what, world, part);
-    }
-}
-
-/// What the case shows; the addresses of a world's ends; and what happens in it. A function returns each table, since the prover
-/// writes out all of a table in each step of a function that names it.
-type Case = (&'static str, &'static [Addr], &'static [Part]);
-
-/// Of names that are held.
-const HOLDS: &[Case] = &[
-    (
-        "a node that crashed rests for two lives after its start",
-        &ENDS,
-        &[Part::Held(&[(&CRASHED, &[])])],
-    ),
-    (
-        "an early ask after a release is quiet, and the name goes to another",
-        &ENDS,
-        &[Part::Held(&[(&ASKED, &[1]), (&RELEASED, &[2]), (&ASKED_AGAIN, &[2])])],
-    ),
-    (
-        "a hold is over 122 ms before its lease, before whose end nobody else is granted the name",
-        &ENDS,
-        &[Part::Held(&[
-            (&ASKED, &[1]),
-            (&IN_ITS_LAST_MOMENT, &[1]),
-            (&AFTER_ITS_HOLD, &[]),
-            (&BEFORE_THE_LEASE_ENDS, &[]),
-        ])],
-    ),
-    (
-        "a hold is over 122 ms before its lease, at whose end another is granted the name",
-        &ENDS,
-        &[Part::Held(&[
-            (&ASKED, &[1]),
-            (&IN_ITS_LAST_MOMENT, &[1]),
-            (&AFTER_ITS_HOLD, &[]),
-            (&WHERE_THE_LEASE_ENDS, &[2]),
-        ])],
-    ),
-    (
-        "a node that renews holds its name throughout",
-        &ENDS,
-        &[Part::Held(&RENEWING)],
-    ),
-];
-
-fn holds() -> &'static [Case] {
-    HOLDS
-}
-
-/// Of ends, strangers and lookups.
-const ENDS_AND_STRANGERS: &[Case] = &[
-    (
-        "strangers are heard and answered, and their datagrams have no number",
-        &ENDS,
-        &[Part::Held(&[(&STRANGERS, &[])])],
-    ),
-    (
-        "packets of a stranger, cut at every length, change no table, before the node asks for a name and while it holds it",
-        &BESIDE_A_STRANGER,
-        &[
-            Part::Rows(&UP),
-            Part::Cut(0),
-            Part::Cut(1),
-            Part::Held(&[(&FREE, &[1])]),
-            Part::Cut(0),
-            Part::Cut(1),
-            Part::Held(&[(&HELD, &[1])]),
-        ],
-    ),
-    (
-        "two nodes hold a group",
-        &ENDS,
-        &[Part::Rows(&GROUP), Part::Team(&[1, 2])],
-    ),
-    (
-        "a lookup is open until its answer, and a status request finds its end down",
-        &ENDS,
-        &[Part::Held(&[(&LOOKUPS, &[])])],
-    ),
-    (
-        "a server that starts again is silent, and holds end first",
-        &ENDS,
-        &[Part::Held(&[
-            (&SILENT, &[1]),
-            (&ENDED, &[]),
-            (&STILL_SILENT, &[]),
-            (&HEARD, &[2]),
-        ])],
-    ),
-    (
-        "a server that limits its clients gives each one name, until it starts anew",
-        &ENDS,
-        &[
-            Part::Limit(0, false),
-            Part::Rows(&UP_WITH_TWO_NODES),
-            Part::Limit(1, true),
-            Part::Held(&[(&ONE_NAME_EACH, &[1])]),
-            Part::Team(&[2]),
-            Part::Held(&[(&ONE_NAME_STILL, &[1])]),
-            Part::Team(&[2]),
-            Part::Held(&[(&NO_LIMIT, &[1])]),
-            Part::Team(&[1]),
-        ],
-    ),
-    (
-        "nodes that the world has not",
-        &ENDS,
-        &[Part::Held(&[(&NO_SUCH_NODES, &[])])],
-    ),
-    (
-        "readings of ends that the world has not are not looked at",
-        &ENDS,
-        &[
-            Part::Rows(&READINGS_OF_ENDS_THAT_THE_WORLD_HAS_NOT),
-            Part::Held(&[(&TAKEN_BY_THE_END_THAT_IS_THERE, &[1])]),
-            Part::Clock(90_000, true),
-            Part::Rows(&READINGS_OF_ITS_ENDS),
-            Part::Clock(91_000, false),
-            Part::Timely(false),
-        ],
-    ),
-    (
-        "a lease doesn't end while the server's clock stands, which is timely until it catches up",
-        &ENDS,
-        &[
-            Part::Held(&[
-                (&ASKED, &[1]),
-                (&WHILE_THE_SERVER_STANDS, &[]),
-                (&REFUSED_WHILE_IT_STANDS, &[]),
-                (&GRANTED_ONCE_IT_GOES_ON, &[2]),
-            ]),
-            Part::Clock(220_000, false),
-            Part::Timely(true),
-            Part::Rows(&CAUGHT_UP),
-            Part::Timely(false),
-        ],
-    ),
-];
-
-fn ends_and_strangers() -> &'static [Case] {
-    ENDS_AND_STRANGERS
-}
-
-/// A case in a new world.
-fn play_case<R: Abort + AllocGlobal>(rt: &R, case: &Case) {
-    let config = config(4096).expect(rt, "limits");
-    let mut world = World::new(rt.alloc(), config, case.1).expect(rt, "a world");
-    play_parts(rt, case.0, &mut world, case.2)
-}
-
-fn play_cases<R: Abort + AllocGlobal>(rt: &R, cases: &[Case]) {
-    for case in cases {
-        play_case(rt, case);
-    }
-}
-
-#[test]
-fn events_and_what_comes_of_them(rt: HostRuntime) {
-    play_cases(&rt, holds());
-    play_cases(&rt, ends_and_strangers())
-}
-
-/// By how many milliseconds the server's clock and the first node's go on in a second of the true one; and whether they kept the
-/// drift bound, and whether they were timely.
-type Pace = (u64, u64, bool, bool);
-
-const PACES: &[Pace] = &[
-    (1_002, 998, true, true),
-    (998, 1_002, true, true),
-    (997, 1_000, false, true),
-    (0, 1_000, false, true),
-    (0, 1_002, false, true),
-    (1_003, 1_000, false, false),
-    (2_000, 1_000, false, false),
-    (1_000, 997, false, false),
-    (1_000, 0, false, false),
-    (0, 0, false, false),
-    (1_000, 1_003, false, false),
-];
-
-fn paces() -> &'static [Pace] {
-    PACES
-}
-
-/// The clocks of a new world go on like this, and the second node's like the true one.
-fn play_pace<R: Abort + AllocGlobal>(rt: &R, pace: &Pace) {
-    let (server, node, kept, timely) = *pace;
-    let mut world = world(rt);
-    let event = Event::Advance {
-        ms: 1_000,
-        readings: [server, node, 1_000, 0, 0, 0, 0, 0, 0],
-    };
-    expect_eq(rt, &world.step(&event).expect(rt, "step"), &Done);
-    expect_eq_in(rt, pace, &world.kept(), &kept);
-    expect_eq_in(rt, pace, &world.timely(), &timely)
-}
-
-#[test]
-fn a_server_may_be_slow_and_a_node_may_not(rt: HostRuntime) {
-    for pace in paces() {
-        play_pace(&rt, pace);
-    }
-}
-
-const SAME: [Addr; 2] = [
-    SERVER,
-    Addr {
-        ip: 0x7F000001,
-        port: 9,
-    },
-];
-
-#[test]
-fn addresses_are_two_to_nine_and_apart_in_their_32_bits(rt: HostRuntime) {
-    let config = config(4096).expect(&rt, "limits");
-    expect(&rt, !begins(&rt, config, &SAME));
-    expect(&rt, !begins(&rt, config, &ENDS[..1]));
-    expect(&rt, begins(&rt, config, &ENDS[..2]));
-}
-
-/// Whether there is a world with these ends.
-fn begins<R: AllocGlobal>(rt: &R, config: Config, ends: &[Addr]) -> bool {
-    World::new(rt.alloc(), config, ends).is_ok()
 }
 
 /// Events of all kinds, over and over.

@@ -3,7 +3,7 @@
 use super::expect::{expect, expect_eq, expect_eq_in};
 use arrayvec::ArrayVec;
 use nbt_name::Addr;
-use nbt_port::{Bind, Device, Fault, Port, Route, Routes, UdpPort, UdpPorts, own_addresses};
+use nbt_port::{Bind, Device, Fault, Port, Route, UdpPort, UdpPorts, own_addresses};
 use std::net::Net;
 use std::process::Abort;
 use std::rt::Files;
@@ -100,63 +100,12 @@ const fn host(last: u32) -> Addr {
     }
 }
 
-/// Datagrams that came, as the last parts of sender and address; then replies, to whom, and from which address they leave.
-const ROUTES: [(&[(u32, u32)], &[(u32, Option<u32>)]); 7] = [
-    (&[], &[(1, None)]),
-    (&[(1, 2)], &[(1, Some(2)), (1, None)]),
-    // In the order of the datagrams.
-    (
-        &[(1, 1), (2, 2), (1, 3)],
-        &[(1, Some(1)), (2, Some(2)), (1, Some(3))],
-    ),
-    // A datagram that had no reply is passed over.
-    (&[(1, 1), (2, 2), (1, 3)], &[(2, Some(2)), (1, Some(3))]),
-    (&[(1, 1), (1, 2), (2, 3)], &[(2, Some(3)), (1, None)]),
-    // To somebody who sent nothing.
-    (&[(1, 1)], &[(3, None), (1, None)]),
-    (&[(1, 3), (2, 1)], &[(1, Some(3)), (1, None)]),
-];
-
-fn expect_routes<R: Abort>(
-    rt: &R,
-    routes: &mut Routes,
-    rows: &[(&[(u32, u32)], &[(u32, Option<u32>)])],
-) {
-    for (came, replies) in rows {
-        routes.clear();
-        for (from, to) in *came {
-            routes.remember(Route {
-                from: host(*from),
-                at: at(*to),
-            });
-        }
-        for (to, from) in *replies {
-            let wanted = from.map(|from| at(from));
-            expect_eq_in(rt, &(*came, *to), &routes.take(host(*to)), &wanted);
-        }
+/// From a host to an address of the port, or from there to the host.
+const fn by(peer: u32, local: u32) -> Route {
+    Route {
+        peer: host(peer),
+        local: Some(at(local)),
     }
-}
-
-/// Of 66 datagrams the first is forgotten, and no other.
-fn expect_full<R: Abort>(rt: &R, routes: &mut Routes) {
-    routes.clear();
-    for from in 0..66 {
-        routes.remember(Route {
-            from: host(from),
-            at: at(from),
-        });
-    }
-    for from in 1..66 {
-        expect_eq(rt, &routes.take(host(from)), &Some(at(from)));
-    }
-    expect_eq(rt, &routes.take(host(0)), &None);
-}
-
-#[test]
-fn routes_of_replies(rt: HostRuntime) {
-    let mut routes = Routes::new(rt.alloc()).expect(&rt, "routes");
-    expect_routes(&rt, &mut routes, &ROUTES);
-    expect_full(&rt, &mut routes);
 }
 
 /// What a port does.
@@ -164,51 +113,67 @@ fn routes_of_replies(rt: HostRuntime) {
 enum Act {
     /// This host sends this to that address.
     Sends(u32, u32, &'static [u8]),
-    /// The port receives, and waits: this from that host.
-    Receives(u32, &'static [u8]),
+    /// The port receives, and waits: this from that host, at that address.
+    Receives(u32, u32, &'static [u8]),
     /// It receives without waiting.
-    ReceivesNow(u32, &'static [u8]),
+    ReceivesNow(u32, u32, &'static [u8]),
     /// Nothing comes, whether it waits or not.
     Nothing,
-    /// It sends this to that host, to which it comes from this address.
+    /// It sends this to that host, by the route of a datagram that came from there at that address. From this one it comes.
     Replies(u32, u32, &'static [u8]),
+    /// It sends this to that host, which sent nothing. It comes from the first address.
+    Begins(u32, &'static [u8]),
 }
 
-/// A reply leaves from the address at which its request came, whichever it is; also where replies wait for one another.
-const ACTS: [Act; 29] = [
+/// A reply leaves from the address at which its request came, whichever it is; also where replies wait for one another, in whatever order
+/// they leave.
+const ACTS: [Act; 41] = [
     Act::Nothing,
     Act::Sends(1, 2, b"one"),
-    Act::Receives(1, b"one"),
+    Act::Receives(1, 2, b"one"),
     Act::Replies(1, 2, b"reply"),
     Act::Sends(1, 1, b"two"),
-    Act::Receives(1, b"two"),
+    Act::Receives(1, 1, b"two"),
     Act::Replies(1, 1, b"reply"),
     Act::Nothing,
     // Two hosts at three addresses, whose replies wait.
     Act::Sends(1, 3, b"three"),
-    Act::Receives(1, b"three"),
+    Act::Receives(1, 3, b"three"),
     Act::Sends(2, 1, b"four"),
-    Act::ReceivesNow(2, b"four"),
+    Act::ReceivesNow(2, 1, b"four"),
     Act::Sends(1, 2, b"five"),
-    Act::ReceivesNow(1, b"five"),
+    Act::ReceivesNow(1, 2, b"five"),
     // The last has no reply.
     Act::Sends(2, 3, b"six"),
-    Act::ReceivesNow(2, b"six"),
+    Act::ReceivesNow(2, 3, b"six"),
     Act::Replies(1, 3, b"3"),
     Act::Replies(2, 1, b"4"),
     Act::Replies(1, 2, b"5"),
     Act::Nothing,
-    // What had no reply is forgotten.
     Act::Sends(2, 2, b"seven"),
-    Act::Receives(2, b"seven"),
+    Act::Receives(2, 2, b"seven"),
     Act::Replies(2, 2, b"7"),
     // To somebody who sent nothing it leaves from the first address.
-    Act::Replies(1, 1, b"8"),
+    Act::Begins(1, b"8"),
+    // One host asks at two addresses, and its replies leave in the opposite order.
+    Act::Sends(1, 2, b"nine"),
+    Act::Receives(1, 2, b"nine"),
+    Act::Sends(1, 3, b"ten"),
+    Act::ReceivesNow(1, 3, b"ten"),
+    Act::Replies(1, 3, b"10"),
+    Act::Replies(1, 2, b"9"),
+    // One reply waits while others come and go, and a receive that waits is among them.
+    Act::Sends(1, 3, b"eleven"),
+    Act::Receives(1, 3, b"eleven"),
+    Act::Nothing,
+    Act::Sends(1, 1, b"twelve"),
+    Act::Receives(1, 1, b"twelve"),
+    Act::Replies(1, 1, b"12"),
+    Act::Replies(1, 3, b"11"),
     // An empty datagram.
     Act::Sends(1, 3, b""),
-    Act::Receives(1, b""),
+    Act::Receives(1, 3, b""),
     Act::Replies(1, 3, b""),
-    Act::Nothing,
     Act::Nothing,
 ];
 
@@ -217,7 +182,7 @@ fn receive<R: Abort, P: Port>(
     port: &mut P,
     waits: bool,
     octets: &mut ArrayVec<u8, 2048>,
-) -> Result<Option<Addr>, Device> {
+) -> Result<Option<Route>, Device> {
     expect(rt, port.failures() < 1 << 62);
     if waits {
         port.receive(octets)
@@ -226,7 +191,7 @@ fn receive<R: Abort, P: Port>(
     }
 }
 
-fn send<R: Abort, P: Port>(rt: &R, port: &mut P, to: Addr, octets: &[u8]) -> Result<(), Device> {
+fn send<R: Abort, P: Port>(rt: &R, port: &mut P, to: Route, octets: &[u8]) -> Result<(), Device> {
     expect(rt, port.failures() < 1 << 62);
     port.send(to, octets)
 }
@@ -234,6 +199,43 @@ fn send<R: Abort, P: Port>(rt: &R, port: &mut P, to: Addr, octets: &[u8]) -> Res
 /// One of two hosts.
 fn host_of<'a>(first: &'a mut UdpPort, second: &'a mut UdpPort, which: u32) -> &'a mut UdpPort {
     if which == 1 { first } else { second }
+}
+
+/// This comes to a port by this route, and stands alone in the buffer.
+fn expect_comes<R: Abort, P: Port>(
+    rt: &R,
+    act: &Act,
+    port: &mut P,
+    waits: bool,
+    octets: &mut ArrayVec<u8, 2048>,
+    by: Route,
+    sent: &[u8],
+) {
+    expect_eq_in(
+        rt,
+        act,
+        &receive(rt, port, waits, octets).expect(rt, "received"),
+        &Some(by),
+    );
+    expect_eq_in(rt, act, &octets.as_slice(), &sent);
+}
+
+/// Nothing comes, whether a receive waits or not, and nothing stands in the buffer.
+fn expect_nothing<R: Abort, P: Port>(
+    rt: &R,
+    act: &Act,
+    port: &mut P,
+    octets: &mut ArrayVec<u8, 2048>,
+) {
+    for waits in [true, false] {
+        expect_eq_in(
+            rt,
+            act,
+            &receive(rt, port, waits, octets).expect(rt, "received"),
+            &None,
+        );
+        expect(rt, octets.is_empty());
+    }
 }
 
 fn play<R: Abort, P: Port>(
@@ -247,51 +249,27 @@ fn play<R: Abort, P: Port>(
     for act in acts {
         match *act {
             Act::Sends(from, to, sent) => {
-                send(rt, host_of(first, second, from), at(to), sent).expect(rt, "sent");
+                let to = Route::to(at(to));
+                send(rt, host_of(first, second, from), to, sent).expect(rt, "sent");
             }
-            Act::Receives(from, sent) => {
-                expect_eq_in(
-                    rt,
-                    act,
-                    &receive(rt, port, true, &mut octets).expect(rt, "received"),
-                    &Some(host(from)),
-                );
-                expect_eq_in(rt, act, &octets.as_slice(), &sent);
+            Act::Receives(from, to, sent) => {
+                expect_comes(rt, act, port, true, &mut octets, by(from, to), sent);
             }
-            Act::ReceivesNow(from, sent) => {
-                expect_eq_in(
-                    rt,
-                    act,
-                    &receive(rt, port, false, &mut octets).expect(rt, "received"),
-                    &Some(host(from)),
-                );
-                expect_eq_in(rt, act, &octets.as_slice(), &sent);
+            Act::ReceivesNow(from, to, sent) => {
+                expect_comes(rt, act, port, false, &mut octets, by(from, to), sent);
             }
-            Act::Nothing => {
-                expect_eq_in(
-                    rt,
-                    act,
-                    &receive(rt, port, true, &mut octets).expect(rt, "received"),
-                    &None,
-                );
-                expect_eq_in(
-                    rt,
-                    act,
-                    &receive(rt, port, false, &mut octets).expect(rt, "received"),
-                    &None,
-                );
-                expect(rt, octets.is_empty());
-            }
+            Act::Nothing => expect_nothing(rt, act, port, &mut octets),
             Act::Replies(to, from, sent) => {
-                send(rt, port, host(to), sent).expect(rt, "sent");
+                send(rt, port, by(to, from), sent).expect(rt, "sent");
                 let other = host_of(first, second, to);
-                expect_eq_in(
-                    rt,
-                    act,
-                    &receive(rt, other, true, &mut octets).expect(rt, "received"),
-                    &Some(at(from)),
-                );
-                expect_eq_in(rt, act, &octets.as_slice(), &sent);
+                let route = Route::to(at(from));
+                expect_comes(rt, act, other, true, &mut octets, route, sent);
+            }
+            Act::Begins(to, sent) => {
+                send(rt, port, Route::to(host(to)), sent).expect(rt, "sent");
+                let other = host_of(first, second, to);
+                let route = Route::to(at(1));
+                expect_comes(rt, act, other, true, &mut octets, route, sent);
             }
         }
     }
@@ -301,17 +279,17 @@ fn play<R: Abort, P: Port>(
 fn expect_fair<R: Abort, P: Port>(rt: &R, port: &mut P, first: &mut UdpPort, second: &mut UdpPort) {
     let mut octets = ArrayVec::new();
     for _ in 0..40 {
-        send(rt, first, at(1), b"flood").expect(rt, "sent");
+        send(rt, first, Route::to(at(1)), b"flood").expect(rt, "sent");
     }
     expect_eq(
         rt,
         &receive(rt, port, true, &mut octets).expect(rt, "received"),
-        &Some(host(1)),
+        &Some(by(1, 1)),
     );
-    send(rt, second, at(3), b"once").expect(rt, "sent");
+    send(rt, second, Route::to(at(3)), b"once").expect(rt, "sent");
     let mut before = 40;
     for turn in 0u32..40 {
-        if receive(rt, port, true, &mut octets).expect(rt, "received") == Some(host(2)) {
+        if receive(rt, port, true, &mut octets).expect(rt, "received") == Some(by(2, 3)) {
             before = turn;
             break;
         }
@@ -321,7 +299,7 @@ fn expect_fair<R: Abort, P: Port>(rt: &R, port: &mut P, first: &mut UdpPort, sec
         expect_eq(
             rt,
             &receive(rt, port, false, &mut octets).expect(rt, "received"),
-            &Some(host(1)),
+            &Some(by(1, 1)),
         );
     }
     expect_eq(
@@ -339,15 +317,16 @@ fn expect_failures<R: Abort + AllocGlobal, P: Port>(
     long: &[u8],
 ) {
     let mut octets = ArrayVec::new();
-    send(rt, port, Addr { port: 0, ..host(1) }, b"nowhere").expect(rt, "sent");
+    let nowhere = Addr { port: 0, ..host(1) };
+    send(rt, port, Route::to(nowhere), b"nowhere").expect(rt, "sent");
     expect_eq(rt, &port.failures(), &0);
-    send(rt, first, at(2), b"long").expect(rt, "sent");
+    send(rt, first, Route::to(at(2)), b"long").expect(rt, "sent");
     expect_eq(
         rt,
         &receive(rt, port, true, &mut octets).expect(rt, "received"),
-        &Some(host(1)),
+        &Some(by(1, 2)),
     );
-    expect_eq(rt, &send(rt, port, host(1), long), &Err(Device));
+    expect_eq(rt, &send(rt, port, by(1, 2), long), &Err(Device));
     expect_eq(rt, &port.failures(), &1);
     let mut said = Vec::new(rt.alloc());
     port.cause().expect(rt, "a cause").tell("", &mut said);
@@ -449,17 +428,21 @@ fn expect_served<R: Abort, M: Net + Files + time::Clock>(
         );
     }
     let mut octets = ArrayVec::new();
-    send(rt, other, loopback(20_193), b"hello").expect(rt, "sent");
+    let route = Route {
+        peer: sender(),
+        local: Some(loopback(20_193)),
+    };
+    send(rt, other, Route::to(loopback(20_193)), b"hello").expect(rt, "sent");
     expect_eq(
         rt,
         &receive(rt, port, true, &mut octets).expect(rt, "received"),
-        &Some(sender()),
+        &Some(route),
     );
-    send(rt, port, sender(), b"reply").expect(rt, "sent");
+    send(rt, port, route, b"reply").expect(rt, "sent");
     expect_eq(
         rt,
         &receive(rt, other, true, &mut octets).expect(rt, "received"),
-        &Some(loopback(20_193)),
+        &Some(Route::to(loopback(20_193))),
     );
 }
 

@@ -4,7 +4,9 @@ use super::expect::{expect, expect_eq, expect_eq_in};
 use arrayvec::ArrayVec;
 use nbt_lease::Moment;
 use nbt_name::Addr;
-use nbt_port::{Clock, Device, Fault, MachineClock, Port, SteadyClock, UdpPort, steady_clock};
+use nbt_port::{
+    Clock, Device, Fault, MachineClock, Port, Route, SteadyClock, UdpPort, steady_clock,
+};
 use std::cell::Cell;
 use std::process::Abort;
 use std::rt::Net;
@@ -24,7 +26,7 @@ const THERE: Addr = Addr {
 /// These octets are sent.
 fn send<R: Abort>(rt: &R, port: &mut UdpPort, to: Addr, octets: &[u8]) -> Result<(), Device> {
     expect(rt, port.failures() < 1 << 62);
-    port.send(to, octets)
+    port.send(Route::to(to), octets)
 }
 
 /// What comes into the buffer.
@@ -32,7 +34,7 @@ fn receive<R: Abort>(
     rt: &R,
     port: &mut UdpPort,
     octets: &mut ArrayVec<u8, 2048>,
-) -> Result<Option<Addr>, Device> {
+) -> Result<Option<Route>, Device> {
     expect(rt, port.failures() < 1 << 62);
     port.receive(octets)
 }
@@ -58,7 +60,7 @@ fn expect_comes<R: Abort>(
     expect_eq(
         rt,
         &receive(rt, far, octets).expect(rt, "received"),
-        &Some(HERE),
+        &Some(Route::to(HERE)),
     );
     expect_eq_in(rt, &sent.len(), &octets.as_slice(), &taken);
 }

@@ -4,7 +4,7 @@ use super::expect::{expect, expect_eq};
 use arrayvec::ArrayVec;
 use nbt_name::Addr;
 use nbt_port::{
-    Bind, Cause, Fault, MachineCall, Port, RECEIVE_WAIT, UdpPort, UdpPorts, tell_end_of,
+    Bind, Cause, Fault, MachineCall, Port, RECEIVE_WAIT, Route, UdpPort, UdpPorts, tell_end_of,
 };
 use std::io;
 use std::process::Abort;
@@ -75,14 +75,15 @@ fn a_port_watches_one_host(rt: HostRuntime) {
     let nowhere = Addr { port: 0, ..THERE };
     let mut port = UdpPort::bind(&rt, Addr { port: 0, ..HERE }).expect(&rt, "bound");
     port.watch(THERE);
-    port.send(nowhere, b"lost").expect(&rt, "sent");
+    port.send(Route::to(nowhere), b"lost").expect(&rt, "sent");
     expect(&rt, port.lost().is_none());
     port.watch(nowhere);
     expect(&rt, port.failures() < 1 << 62);
-    port.send(nowhere, b"lost").expect(&rt, "sent");
+    port.send(Route::to(nowhere), b"lost").expect(&rt, "sent");
     expect(&rt, port.lost().is_some());
     expect(&rt, port.failures() < 1 << 62);
-    port.send(THERE, b"elsewhere").expect(&rt, "sent");
+    port.send(Route::to(THERE), b"elsewhere")
+        .expect(&rt, "sent");
     expect(&rt, port.lost().is_some());
 }
 

@@ -2,11 +2,10 @@
 
 use super::expect::{expect, expect_eq, expect_eq_in};
 use nbt_lease::Moment;
-use nbt_log::{Dates, Entry};
+use nbt_log::{Dates, Entry, Health};
 use nbt_name::Addr;
 use nbt_nbns::{Content, FilePlace, Logger, Place, Shown};
 use nbt_port::OwnReplies;
-use nbt_report::Health;
 use nbt_server::Outcome;
 use std::io::{ErrorKind, Write};
 use std::process::Abort;

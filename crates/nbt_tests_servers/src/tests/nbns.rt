@@ -5,14 +5,13 @@ use super::expect::{expect, expect_eq, expect_eq_in, expect_in};
 use super::stage::{Scene, play_on};
 use nbt_front::{FixedNames, Front};
 use nbt_lease::{Config, Moment};
-use nbt_log::Dates;
+use nbt_log::{Dates, Origin, Tally};
 use nbt_name::Addr;
 use nbt_nbns::{
-    Content, FilePlace, Journal, Judged, Keeper, Logger, MemoryPlace, NbnsArguments, Outbox, Place,
-    judge, run_nbns, watch_on, write_begin, write_refusal, write_warning,
+    Content, FilePlace, Journal, Judged, Keeper, Logger, Manner, MemoryPlace, NbnsArguments,
+    Outbox, Place, judge, run_nbns, watch_on, write_begin, write_refusal, write_warning,
 };
 use nbt_port::{Bind, Fault, MemoryClock, MemoryPort, Port, UdpPort};
-use nbt_report::{Origin, Tally};
 use nbt_server::Server;
 use nbt_testing::{
     GRANTED, QUERY, REFRESH, REFUSED, REGISTRATION, RELEASE, RIVAL, Row, clock, config, sent_all,
@@ -1329,8 +1328,11 @@ fn longest_leases_that_are_too_short_or_long(rt: HostRuntime) {
 }
 
 fn write_first(rt: &impl Abort, text: &mut String) {
-    write_begin(&[FIRST], 300, 1_795_511_823, text).expect(rt, "a first line");
-    write_begin(&[FIRST, SECOND], 20, 1_795_511_823, text).expect(rt, "a first line");
+    write_begin(&[FIRST], Manner::Starts(300, 1_795_511_823), text).expect(rt, "a first line");
+    write_begin(&[FIRST, SECOND], Manner::Starts(20, 1_795_511_823), text).expect(
+        rt,
+        "a first line",
+    );
     write_refusal(Config::new(1_500, 20, 1).expect(rt, "limits"), text).expect(rt, "write refusal");
     text.push_str("\n").expect(rt, "memory");
     write_warning(Config::new(1_000, 7_200, 1).expect(rt, "limits"), text).expect(

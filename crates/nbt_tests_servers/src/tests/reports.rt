@@ -3,11 +3,11 @@
 use super::expect::{expect_eq, expect_eq_in};
 use super::log::{Done, claim_of, entry_of, outcome_of};
 use nbt_lease::{Lease, Moment};
-use nbt_name::{Kind, Name};
-use nbt_port::OwnReplies;
-use nbt_report::{
+use nbt_log::{
     Figures, Gauges, Health, OutcomeCounts, RefusalCounts, Tally, measure, write_hosts, write_stats,
 };
+use nbt_name::{Kind, Name};
+use nbt_port::OwnReplies;
 use nbt_server::Refusal;
 use std::process::Abort;
 

@@ -5,7 +5,7 @@ use super::expect::{expect, expect_eq, expect_eq_in, expect_in};
 use super::stage::{Scene, play_on};
 use arrayvec::ArrayVec;
 use nbt_name::Addr;
-use nbt_port::{Device, MemoryClock, MemoryPort, Port, UdpPort};
+use nbt_port::{Device, MemoryClock, MemoryPort, Port, Route, UdpPort};
 use nbt_serve::{Counts, SambaPort, serve_turns, take_registration};
 use nbt_server::Server;
 use nbt_testing::{EVERY_KIND, octets, port as port_of, sent_all};
@@ -347,14 +347,14 @@ fn receive<R: Abort, P: Port>(
     rt: &R,
     port: &mut P,
     octets: &mut ArrayVec<u8, 2048>,
-) -> Result<Option<Addr>, Device> {
+) -> Result<Option<Route>, Device> {
     expect(rt, port.failures() < 1 << 62);
     port.receive(octets)
 }
 
 fn send<R: Abort, P: Port>(rt: &R, port: &mut P, octets: &[u8]) -> Result<(), Device> {
     expect(rt, port.failures() < 1 << 62);
-    port.send(THERE, octets)
+    port.send(Route::to(THERE), octets)
 }
 
 /// What is sent is sent as it is, and taken where it comes.
@@ -368,7 +368,7 @@ fn expect_taken<R: Abort + AllocGlobal>(
     expect_eq(
         rt,
         &receive(rt, far, came).expect(rt, "received"),
-        &Some(HERE),
+        &Some(Route::to(HERE)),
     );
     let taken = claim(rt, "60f4", "2900", NODEB);
     expect_eq(rt, &came.as_slice(), &taken.as_slice());

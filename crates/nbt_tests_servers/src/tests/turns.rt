@@ -7,7 +7,7 @@ use nbt_client::{Seen, Want, node_turn};
 use nbt_lease::Moment;
 use nbt_name::{Addr, Kind, Name};
 use nbt_node::{AskFault, Node};
-use nbt_port::{Datagram, Device, MemoryClock, MemoryPort, Port};
+use nbt_port::{Datagram, Device, MemoryClock, MemoryPort, Port, Route};
 use nbt_serve::{Counts, serve_turns};
 use nbt_server::Server;
 use nbt_testing::{
@@ -244,7 +244,7 @@ fn port_of_many<R: Abort + AllocGlobal>(rt: &R) -> MemoryPort {
     for number in 0..4096 {
         let octets = registration_of_many(rt, number).expect(rt, "a registration");
         let datagram = Datagram {
-            addr: FIRST,
+            route: Route::to(FIRST),
             octets,
         };
         incoming.push_back(Some(datagram)).expect(rt, "memory");

@@ -5,9 +5,8 @@ use super::expect::expect_eq_in;
 use nbt_lease::Moment;
 use nbt_log::Dates;
 use nbt_name::Addr;
-use nbt_resume::Reason;
-use nbt_state::{Manner, manner_of, write_begin};
-use nbt_store::{Fault, Silence};
+use nbt_nbns::{Manner, manner_of, write_begin};
+use nbt_store::{Fault, Reason, Silence};
 use std::process::Abort;
 
 /// When a server began first, the time now, from when on it serves, how many leases it has, why it begins anew, and its first line. The

@@ -4,10 +4,9 @@ use super::expect::{expect, expect_eq, expect_eq_in};
 use arrayvec::ArrayVec;
 use nbt_front::{FixedNames, Front};
 use nbt_name::Addr;
-use nbt_nbns::NbnsArguments;
-use nbt_port::{Bind, Device, Fault, Port, UdpPort, UdpPorts};
+use nbt_nbns::{NbnsArguments, ServerArguments, StateFolder, run_server};
+use nbt_port::{Bind, Device, Fault, Port, Route, UdpPort, UdpPorts};
 use nbt_serve::SambaPort;
-use nbt_state::{ServerArguments, StateFolder, run_server};
 use nbt_testing::config;
 use std::alloc::Allocator;
 use std::cell::Cell;
@@ -316,7 +315,7 @@ fn receive<R: Abort, P: Port>(
     rt: &R,
     port: &mut P,
     octets: &mut ArrayVec<u8, 2048>,
-) -> Result<Option<Addr>, Device> {
+) -> Result<Option<Route>, Device> {
     expect(rt, port.failures() < 1 << 62);
     port.receive_now(octets)
 }
@@ -364,20 +363,40 @@ const HOST: Addr = Addr {
 fn expect_reply<R: Abort, P: Port>(rt: &R, port: &mut P, host: &mut UdpPort, to: Addr) {
     let mut octets = ArrayVec::new();
     expect(rt, host.failures() < 1 << 62);
-    host.send(to, b"hello").expect(rt, "sent");
+    host.send(Route::to(to), b"hello").expect(rt, "sent");
+    let route = Route {
+        peer: HOST,
+        local: Some(to),
+    };
     expect_eq(
         rt,
         &receive(rt, port, &mut octets).expect(rt, "received"),
-        &Some(HOST),
+        &Some(route),
     );
     expect(rt, port.failures() < 1 << 62);
-    port.send(HOST, b"reply").expect(rt, "sent");
+    port.send(route, b"reply").expect(rt, "sent");
     expect_eq(
         rt,
         &receive(rt, host, &mut octets).expect(rt, "received"),
-        &Some(to),
+        &Some(Route::to(to)),
     );
     expect_eq(rt, &octets.as_slice(), &b"reply".as_slice());
+}
+
+/// A reply whose request came at an address that is gone meanwhile is lost, and no failure.
+fn expect_lost<R: Abort, P: Port>(rt: &R, port: &mut P, host: &mut UdpPort, gone: Addr) {
+    let route = Route {
+        peer: HOST,
+        local: Some(gone),
+    };
+    expect_eq(rt, &port.failures(), &0);
+    port.send(route, b"reply").expect(rt, "sent");
+    expect_eq(rt, &port.failures(), &0);
+    expect_eq(
+        rt,
+        &receive(rt, host, &mut ArrayVec::new()).expect(rt, "received"),
+        &None,
+    );
 }
 
 #[test]
@@ -403,6 +422,7 @@ fn expect_followed<R: Abort + AllocGlobal + Net + Files>(
     let mut host = UdpPort::bind(rt, HOST).expect(rt, "bound");
     expect_looks(rt, machine, port, &LOOKS);
     expect_reply(rt, port, &mut host, at(3));
+    expect_lost(rt, port, &mut host, at(2));
     // Without the list it keeps what it has.
     fs::remove_file(rt, list).expect(rt, "removed");
     machine.since_boot.set(20_000);

@@ -4,13 +4,12 @@
 use super::expect::{expect, expect_eq, expect_eq_in, expect_in};
 use super::stage::{Scene, play_on};
 use arrayvec::ArrayVec;
-use nbt_keep::{BATCH, KeepFault, Teller, Waiting, keep_on, keep_turn};
 use nbt_lease::{Lease, Moment};
-use nbt_log::Dates;
+use nbt_log::{Dates, Origin, Tally};
 use nbt_name::{Addr, Name};
-use nbt_nbns::{Journal, MemoryPlace};
-use nbt_port::{Datagram, Fault, MemoryClock, MemoryPort, Port};
-use nbt_report::{Origin, Tally};
+use nbt_nbns::{Journal, MemoryPlace, Teller, keep_on};
+use nbt_port::{Datagram, Fault, MemoryClock, MemoryPort, Port, Route};
+use nbt_serve::{BATCH, KeepFault, Waiting, keep_turn};
 use nbt_server::Server;
 use nbt_store::{Boot, DiskStore, Header, MemoryDisk, Trouble, load};
 use nbt_testing::{
@@ -502,7 +501,7 @@ fn port_of_many<R: Abort + AllocGlobal>(rt: &R, numbers: &[Option<u16>]) -> Memo
         incoming
             .push_back(match number {
                 Some(number) => Some(Datagram {
-                    addr: FIRST,
+                    route: Route::to(FIRST),
                     octets: registration_of_many(rt, *number).expect(rt, "a registration"),
                 }),
                 None => None,
@@ -1072,7 +1071,7 @@ fn port_of_one<R: Abort + AllocGlobal>(rt: &R) -> MemoryPort {
     for _ in 0..MANY {
         incoming
             .push_back(Some(Datagram {
-                addr: FIRST,
+                route: Route::to(FIRST),
                 octets: octets(rt, REGISTRATION).expect(rt, "octets"),
             }))
             .expect(rt, "memory");

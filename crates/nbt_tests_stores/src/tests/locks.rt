@@ -4,7 +4,7 @@
 use super::expect::{expect, expect_eq, expect_eq_in, expect_in};
 use super::folders::{header, path_for, path_in, row, text_in};
 use super::following::{Swap, machine_swapping};
-use nbt_state::FolderStore;
+use nbt_nbns::FolderStore;
 use nbt_store::{Broken, Change, Store, SystemDisk};
 use std::fs::{File, Permissions};
 use std::os::unix::fs::{PermissionsExt, symlink};

@@ -6,7 +6,7 @@ use super::restarts::{
     BEGUN_LATER, File, LOOKED, OLDER, Shown, boot_of, kept_of, seen_in, write_found,
 };
 use nbt_lease::Config;
-use nbt_resume::{Found, outlasts};
+use nbt_store::{Found, outlasts};
 use std::process::Abort;
 
 /// Which case it is, the longest lease now, what is found, what the clocks show; and whether a lease may outlast the silence of a server

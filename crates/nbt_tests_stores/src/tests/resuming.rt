@@ -4,9 +4,9 @@
 use super::expect::{expect_eq_in, expect_in};
 use super::{FRED, TEAM};
 use arrayvec::ArrayVec;
-use nbt_keep::change_of;
 use nbt_lease::{Config, Lease, Moment, RestoreFault, Table};
 use nbt_name::{Addr, Kind, Name};
+use nbt_serve::change_of;
 use nbt_server::{ResumeFault, Server, ServerFault};
 use nbt_store::Change;
 use nbt_testing::{

@@ -4,13 +4,12 @@
 use super::expect::{expect, expect_eq_in};
 use super::keeping::{header, store};
 use super::stage::{Scene, play_on};
-use nbt_keep::{BATCH, Teller, Waiting, keep_on};
 use nbt_lease::Moment;
-use nbt_log::Dates;
+use nbt_log::{Dates, Origin, Tally};
 use nbt_name::Addr;
-use nbt_nbns::{Journal, Logger, MemoryPlace};
+use nbt_nbns::{Journal, Logger, MemoryPlace, Teller, keep_on};
 use nbt_port::{Fault, MemoryClock, MemoryPort, Port};
-use nbt_report::{Origin, Tally};
+use nbt_serve::{BATCH, Waiting};
 use nbt_server::Server;
 use nbt_store::Trouble;
 use nbt_testing::{REGISTRATION, RIVAL, Row, clock};

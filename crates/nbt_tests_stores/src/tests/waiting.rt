@@ -4,9 +4,9 @@
 use super::expect::{expect, expect_eq};
 use super::keeping::store;
 use arrayvec::ArrayVec;
-use nbt_keep::{BATCH, Waiting, keep_turn};
 use nbt_name::Addr;
-use nbt_port::{Device, MemoryClock, MemoryPort, Port};
+use nbt_port::{Device, MemoryClock, MemoryPort, Port, Route};
+use nbt_serve::{BATCH, Waiting, keep_turn};
 use nbt_server::Server;
 use nbt_store::{DiskStore, MemoryDisk};
 use nbt_testing::{QUERY, REGISTRATION, Row, clock, port, started};
@@ -47,17 +47,17 @@ impl<P: Port> Port for Watched<P> {
 
     ghost failures = { P.failures };
 
-    fn receive(&mut self, octets: &mut ArrayVec<u8, 2048>) -> Result<Option<Addr>, Device> {
+    fn receive(&mut self, octets: &mut ArrayVec<u8, 2048>) -> Result<Option<Route>, Device> {
         let _ = self.waits.try_push(true);
         self.beneath.receive(octets)
     }
 
-    fn receive_now(&mut self, octets: &mut ArrayVec<u8, 2048>) -> Result<Option<Addr>, Device> {
+    fn receive_now(&mut self, octets: &mut ArrayVec<u8, 2048>) -> Result<Option<Route>, Device> {
         let _ = self.waits.try_push(false);
         self.beneath.receive_now(octets)
     }
 
-    fn send(&mut self, to: Addr, octets: &[u8]) -> Result<(), Device> {
+    fn send(&mut self, to: Route, octets: &[u8]) -> Result<(), Device> {
         self.beneath.send(to, octets)
     }
 

@@ -1,0 +1,20 @@
+//! Scenes: a command over a port, clocks and outputs that a script stands for, call by call.
+
+mod command;
+mod line;
+mod node;
+mod paper;
+mod playing;
+mod port;
+mod repeat;
+mod script;
+mod server;
+mod stage;
+mod table;
+mod watch;
+mod words;
+mod world;
+
+pub use playing::play;
+pub use script::Scene;
+pub use stage::Verdict;
