@@ -31,22 +31,18 @@ static char renamed_from[PATH_MAX], renamed_to[PATH_MAX];
 
 #define REAL(name) ((__typeof__(&name))dlsym(RTLD_NEXT, #name))
 
-static int is_ours(const char *path)
-{
+static int is_ours(const char *path) {
     const char *folder = getenv("DISK_FOLDER");
     return folder && strncmp(path, folder, strlen(folder)) == 0;
 }
 
-static struct file *watched(int fd)
-{
+static struct file *watched(int fd) {
     return fd >= 0 && fd < MOST && files[fd].is_watched ? &files[fd] : NULL;
 }
 
 /* Writes the first `count` octets that wait. */
-static void put(int fd, struct file *file, size_t count)
-{
-    size_t done = 0;
-    while (done < count) {
+static void put(int fd, struct file *file, size_t count) {
+    for (size_t done = 0; done < count;) {
         ssize_t wrote = REAL(write)(fd, file->octets + done, count - done);
         if (wrote <= 0)
             _exit(99);
@@ -56,59 +52,48 @@ static void put(int fd, struct file *file, size_t count)
     file->count -= count;
 }
 
-static void put_all(int fd)
-{
+static void put_all(int fd) {
     struct file *file = watched(fd);
     if (file)
         put(fd, file, file->count);
 }
 
-static void put_everything(void)
-{
+static void put_everything(void) {
     for (int fd = 0; fd < MOST; fd++)
         put_all(fd);
 }
 
-static void put_renaming(void)
-{
+static void put_renaming(void) {
     if (*renamed_from)
         REAL(rename)(renamed_from, renamed_to);
     *renamed_from = 0;
 }
 
-static unsigned drawn(unsigned below)
-{
+static unsigned drawn(unsigned below) {
     static unsigned seed;
     if (!seed)
         seed = getpid() ^ time(NULL) ^ clock();
     return rand_r(&seed) % below;
 }
 
-int open(const char *path, int flags, ...)
-{
+int open(const char *path, int flags, ...) {
     va_list more;
     va_start(more, flags);
     mode_t mode = flags & O_CREAT ? va_arg(more, mode_t) : 0;
     va_end(more);
+    struct stat is;
     int ours = is_ours(path);
-    if (ours && !(flags & O_DIRECTORY)) {
-        struct stat is;
-        int is_folder = stat(path, &is) == 0 && S_ISDIR(is.st_mode);
-        if (!is_folder) {
-            put_renaming();
-            put_everything();
-        }
+    if (ours && !(flags & O_DIRECTORY) && !(stat(path, &is) == 0 && S_ISDIR(is.st_mode))) {
+        put_renaming();
+        put_everything();
     }
     int fd = REAL(open)(path, flags, mode);
-    struct stat is;
-    if (ours && fd >= 0 && fd < MOST && fstat(fd, &is) == 0) {
+    if (ours && fd >= 0 && fd < MOST && fstat(fd, &is) == 0)
         files[fd] = (struct file){.is_watched = (flags & O_ACCMODE) != O_RDONLY, .is_folder = S_ISDIR(is.st_mode)};
-    }
     return fd;
 }
 
-ssize_t write(int fd, const void *octets, size_t count)
-{
+ssize_t write(int fd, const void *octets, size_t count) {
     struct file *file = watched(fd);
     if (!file)
         return REAL(write)(fd, octets, count);
@@ -124,13 +109,11 @@ ssize_t write(int fd, const void *octets, size_t count)
 }
 
 /* The C library has the same call by this name too. */
-ssize_t __write(int fd, const void *octets, size_t count)
-{
+ssize_t __write(int fd, const void *octets, size_t count) {
     return write(fd, octets, count);
 }
 
-static int sync_one(int fd)
-{
+int fsync(int fd) {
     if (getenv("DISK_LIES"))
         return 0;
     put_all(fd);
@@ -139,18 +122,11 @@ static int sync_one(int fd)
     return 0;
 }
 
-int fsync(int fd)
-{
-    return sync_one(fd);
+int fdatasync(int fd) {
+    return fsync(fd);
 }
 
-int fdatasync(int fd)
-{
-    return sync_one(fd);
-}
-
-int rename(const char *from, const char *to)
-{
+int rename(const char *from, const char *to) {
     if (!is_ours(to))
         return REAL(rename)(from, to);
     put_renaming();
@@ -161,26 +137,22 @@ int rename(const char *from, const char *to)
     return 0;
 }
 
-off_t lseek(int fd, off_t offset, int whence)
-{
+off_t lseek(int fd, off_t offset, int whence) {
     put_all(fd);
     return REAL(lseek)(fd, offset, whence);
 }
 
-ssize_t read(int fd, void *octets, size_t count)
-{
+ssize_t read(int fd, void *octets, size_t count) {
     put_all(fd);
     return REAL(read)(fd, octets, count);
 }
 
-int ftruncate(int fd, off_t length)
-{
+int ftruncate(int fd, off_t length) {
     put_all(fd);
     return REAL(ftruncate)(fd, length);
 }
 
-int close(int fd)
-{
+int close(int fd) {
     struct file *file = watched(fd);
     if (file && file->count) {
         /* It waits still, behind a descriptor that the program doesn't know. */
@@ -198,8 +170,7 @@ int close(int fd)
 }
 
 /* A program that ends by itself loses nothing: the system goes on. */
-__attribute__((destructor)) static void end(void)
-{
+__attribute__((destructor)) static void end(void) {
     put_everything();
     put_renaming();
 }

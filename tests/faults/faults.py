@@ -1,19 +1,15 @@
-"""The faults, and when each comes. All is drawn from the seed before the run, but for what a fault waits for."""
+"""The faults, which README.md tells of, and when each comes. All is drawn from the seed before the run, but for what a fault waits for."""
 
 import random
-from collections.abc import Callable
-from typing import NamedTuple
+import sys
+from collections import namedtuple
 
+import line
 from packets import ACTIVE, CONFLICT, GROUP, REFRESH, REGISTERED, REGISTRATION, RELEASE, UNIQUE, WAIT, reply, request
 
 
-class Event(NamedTuple):
-    """A fault that is to come: when, which, at which host, and what else is drawn for it."""
-
-    at: float
-    fault: Callable
-    target: int
-    draw: random.Random
+# A fault that is to come: when, which, at which host, and what else is drawn for it.
+Event = namedtuple("Event", "at fault target draw")
 
 
 def down_time(play, draw):
@@ -22,7 +18,6 @@ def down_time(play, draw):
 
 
 def kill(play, host, draw):
-    """The host is killed, and started again."""
     if host.is_up():
         play.book.counts["kills"] += 1
         host.kill()
@@ -37,17 +32,14 @@ def kill_at_a_request(play, host, draw):
 
 
 def pause(play, host, draw):
-    """The host is stopped for a moment."""
     stop(play, host, draw.uniform(0.05, 4))
 
 
 def long_pause(play, host, draw):
-    """The host is stopped for longer than it may hold a name."""
     stop(play, host, draw.uniform(play.longest + 0.5, play.longest + 6))
 
 
 def stop(play, host, seconds):
-    """The host is stopped for so long."""
     if host.is_awake():
         play.book.counts["pauses"] += 1
         host.pause()
@@ -56,60 +48,48 @@ def stop(play, host, seconds):
 
 
 def cut(play, host, draw):
-    """The host's link goes down, at the hub or at the host, and up again."""
     cut_machine(play, host.machine, draw.random() < 0.75, draw.uniform(0.2, play.longest + 5))
 
 
 def cut_the_server(play, host, draw):
-    """The server's link at the hub goes down, and up again."""
     cut_machine(play, play.server.machine, True, draw.uniform(0.2, 6))
 
 
 def cut_machine(play, machine, at_the_hub, seconds):
-    """A link goes down, unless it is, and up again."""
-    if machine.name in play.cut:
-        return
-    play.book.counts["cuts"] += 1
-    play.cut.add(machine.name)
-    machine.cut(at_the_hub)
-    play.after(seconds, lambda: mend(play, machine, at_the_hub))
 
+    def mend():
+        machine.mend(at_the_hub)
+        play.cut.discard(machine.name)
 
-def mend(play, machine, at_the_hub):
-    """The link is up again."""
-    machine.mend(at_the_hub)
-    play.cut.discard(machine.name)
+    if machine.name not in play.cut:
+        play.book.counts["cuts"] += 1
+        play.cut.add(machine.name)
+        machine.cut(at_the_hub)
+        play.after(seconds, mend)
 
 
 def bad_line(play, host, draw):
-    """Frames to and from the host are lost, sent twice, delayed and overtaken."""
     loss, again = draw.choice([0, 0.1, 0.4]), draw.choice([0, 0.1, 0.5])
     lay_line(play, host, draw, draw.uniform(4, 20), loss, again, draw.choice([0, 0.02, 0.15]), draw.choice([0.02, 0.1, 0.25]))
 
 
 def lay_line(play, host, draw, seconds, loss, again, delay, spread):
-    """A bad line is laid in the host's way, and taken out again."""
-    machine = host.machine
-    if host.name in play.bad:
-        return
-    play.book.counts["bad lines"] += 1
-    play.bad.add(host.name)
-    links = machine.detour()
-    words = [*links, seconds, loss, again, delay, spread, draw.getrandbits(32)]
-    play.helper(machine.hub, "line.py", words, lambda said: take_line(play, host, said))
+    """A bad line is laid in the host's way, and taken out again. It says how many frames came, and how many went on."""
 
+    def over(said):
+        host.machine.straighten()
+        play.bad.discard(host.name)
+        for word, frames in zip(("frames over bad lines", "frames that went on"), said.split(), strict=True):
+            play.book.counts[word] += int(frames)
 
-def take_line(play, host, said):
-    """The line is good again. The helper said how many frames came, and how many went on."""
-    host.machine.straighten()
-    play.bad.discard(host.name)
-    came, went = map(int, said.split())
-    play.book.counts["frames over bad lines"] += came
-    play.book.counts["frames that went on"] += went
+    if host.name not in play.bad:
+        play.book.counts["bad lines"] += 1
+        play.bad.add(host.name)
+        words = [*host.machine.detour(), seconds, loss, again, delay, spread, draw.getrandbits(32)]
+        play.helper(None, line.__file__, words, over)
 
 
 def kill_the_server(play, host, draw):
-    """The server is killed, and started again soon. Where it doesn't keep its leases it is silent then for its longest lease."""
     if play.server.is_up():
         play.book.counts["kills of the server"] += 1
         play.server.kill()
@@ -117,22 +97,20 @@ def kill_the_server(play, host, draw):
 
 
 def flood(play, host, draw):
-    """Queries, or garbage, come to the server or to a host, some thousands a second."""
     target = play.server if draw.random() < 0.5 else host
     what = draw.choice(["queries", "garbage"])
-    target.machine.disturb()
-    play.book.counts["floods"] += 1
     words = [target.machine.address, draw.uniform(1, 4), draw.choice([500, 2000, 6000]), what, draw.getrandbits(32), *play.contended]
 
     def over(said):
         target.machine.recover()
         play.book.counts["datagrams"] += int(said)
 
-    play.helper(play.stranger.namespace, "flood.py", words, over)
+    target.machine.disturb()
+    play.book.counts["floods"] += 1
+    play.helper(play.stranger.name, f"{sys.path[0]}/flood.py", words, over)
 
 
 def stranger(play, host, draw):
-    """A datagram about a name comes from an address that is no host's, to the server or to a host."""
     sender = draw.choice(play.strangers)
     name, kind, number = draw.choice(play.contended), draw.choice([UNIQUE, GROUP]), draw.randrange(1, 40)
     if draw.random() < 0.5:
@@ -156,20 +134,14 @@ def to_the_server(draw, number, name, kind, address, own):
 
 def to_a_host(draw, number, name, kind, address):
     """A reply as the server's: granted, refused, demanded, or put off; or the release of its name."""
-    replies = [(REGISTERED, 300), (ACTIVE, 0), (CONFLICT, 0), (WAIT, 60)]
     if draw.random() < 0.2:
         return request(number, RELEASE, name, kind, address, 0)
-    flags, ttl = draw.choice(replies)
+    flags, ttl = draw.choice([(REGISTERED, 300), (ACTIVE, 0), (CONFLICT, 0), (WAIT, 60)])
     return reply(number, flags, name, kind, address, ttl)
 
 
-class Rates(NamedTuple):
-    """How many of each fault come in a minute, for each host, and in all."""
-
-    for_each_host: dict
-    in_all: dict
-
-
+# How many of each fault come in a minute, for each host, and in all.
+Rates = namedtuple("Rates", "for_each_host in_all")
 ALL = Rates(
     {kill: 0.5, kill_at_a_request: 0.5, pause: 0.75, long_pause: 0.35, cut: 1.1, bad_line: 0.4},
     {kill_the_server: 0.6, cut_the_server: 0.3, flood: 2.0, stranger: 400.0},
@@ -184,11 +156,8 @@ def rates_of(state, rate):
 
 
 def schedule(seed, seconds, hosts, rates):
-    """All events of a run, in order."""
-    draw = random.Random(seed)
-    rates = {fault: rate * hosts for fault, rate in rates.for_each_host.items()} | rates.in_all
-    events = []
-    for fault, rate in rates.items():
+    draw, events = random.Random(seed), []
+    for fault, rate in ({fault: rate * hosts for fault, rate in rates.for_each_host.items()} | rates.in_all).items():
         at = draw.expovariate(rate / 60)
         while at < seconds:
             events.append(Event(at, fault, draw.randrange(hosts), random.Random(draw.getrandbits(64))))

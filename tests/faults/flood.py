@@ -10,27 +10,24 @@ import socket
 import sys
 import time
 
-import packets
+sys.path.insert(1, f"{sys.path[0]}/../lib")
+from packets import CONFLICT, GROUP, REFRESH, REGISTERED, REGISTRATION, RELEASE, UNIQUE, WAIT  # noqa: E402
+from packets import query, reply, request, status_request  # noqa: E402
 
 
-def models(names, address):
+def models(name, address):
     """A packet of each kind, from which garbage is made."""
-    name = names[0]
+    requests = [(REGISTRATION, UNIQUE, 10), (REFRESH, GROUP, 10), (RELEASE, UNIQUE, 0)]
+    replies = [(REGISTERED, 10), (CONFLICT, 0), (WAIT, 60), (0x8580, 10)]
     return [
-        packets.query(1, name),
-        packets.status_request(1),
-        packets.request(1, packets.REGISTRATION, name, packets.UNIQUE, address, 10),
-        packets.request(1, packets.REFRESH, name, packets.GROUP, address, 10),
-        packets.request(1, packets.RELEASE, name, packets.UNIQUE, address, 0),
-        packets.reply(1, packets.REGISTERED, name, packets.UNIQUE, address, 10),
-        packets.reply(1, packets.CONFLICT, name, packets.UNIQUE, address, 0),
-        packets.reply(1, packets.WAIT, name, packets.UNIQUE, address, 60),
-        packets.reply(1, 0x8580, name, packets.UNIQUE, address, 10),
+        query(1, name),
+        status_request(1),
+        *(request(1, flags, name, kind, address, ttl) for flags, kind, ttl in requests),
+        *(reply(1, flags, name, UNIQUE, address, ttl) for flags, ttl in replies),
     ]
 
 
 def garbage(draw, examples):
-    """Octets at random, or a packet that was changed."""
     if draw.random() < 0.2:
         return draw.randbytes(draw.randrange(0, 600))
     octets = bytearray(draw.choice(examples))
@@ -45,20 +42,16 @@ def garbage(draw, examples):
 
 def main(address, seconds, rate, what, seed, *names):
     """Sends as many as the rate and the time say, in bursts of a hundredth of a second."""
-    draw = random.Random(seed)
+    draw, examples = random.Random(seed), models(names[0], address)
     sender = socket.socket(socket.AF_INET, socket.SOCK_DGRAM)
     sender.setblocking(False)
-    examples = models(names, address)
-    if what == "queries":
-        pool = [packets.query(draw.randrange(65536), draw.choice(names)) for _ in range(2000)]
-    else:
-        pool = [garbage(draw, examples) for _ in range(2000)]
-    burst, sent = max(1, int(rate) // 100), 0
-    begun = time.monotonic()
+    asks = what == "queries"
+    pool = [query(draw.randrange(65536), draw.choice(names)) if asks else garbage(draw, examples) for _ in range(2000)]
+    sent, begun = 0, time.monotonic()
     for turn in range(int(float(seconds) * 100)):
-        for _ in range(burst):
+        for _ in range(max(1, int(rate) // 100)):
             try:
-                sender.sendto(pool[draw.randrange(len(pool))], (address, 137))
+                sender.sendto(draw.choice(pool), (address, 137))
                 sent += 1
             except OSError:
                 pass  # the own buffer is full, or the answer to an earlier one was refused

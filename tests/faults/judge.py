@@ -5,8 +5,7 @@ was paused, or waits for a reply to its release. So a hold is sure from its line
 answered for the name before that line was read: between both it can't have been lost and got again without a line.
 """
 
-from collections import defaultdict
-from typing import NamedTuple
+from collections import defaultdict, namedtuple
 
 from packets import GROUP
 
@@ -19,46 +18,28 @@ GIVEN_BACK = ("given back", "give-back denied", "give-back unconfirmed")
 TURN = 0.05
 
 
-class Line(NamedTuple):
-    """A line of a host: when it was read, whose it is, from which of its starts, what happened, to which name."""
+# A line of a host: when it was read, whose it is, from which of its starts, what happened, to which name.
+Line = namedtuple("Line", "at host life event name")
 
-    at: float
-    host: str
-    life: int
-    event: str
-    name: str
+# A host's positive answer for a name: when it was asked, when the answer came, and in which of its starts it was asked.
+Answer = namedtuple("Answer", "asked came host life name")
 
+# What the server told of a name: the addresses, none where it has no such name.
+Told = namedtuple("Told", "asked came name addresses")
 
-class Answer(NamedTuple):
-    """A host's positive answer for a name: when it was asked, when the answer came, and in which of its starts it was asked."""
-
-    asked: float
-    came: float
-    host: str
-    life: int
-    name: str
+# A hold, as its host tells it: from a line `granted` on, sure up to one moment, and over by another, as a line says or not.
+Span = namedtuple("Span", "host life name kind begun sure over has_ending")
 
 
-class Told(NamedTuple):
-    """What the server told of a name: the addresses, none where it has no such name."""
-
-    asked: float
-    came: float
-    name: str
-    addresses: tuple
+def whose(it):
+    return it.host, it.life, it.name
 
 
-class Span(NamedTuple):
-    """A hold, as its host tells it: from a line `granted` on, sure up to one moment, and over by another, as a line says or not."""
-
-    host: str
-    life: int
-    name: str
-    kind: int
-    begun: float
-    sure: float
-    over: float
-    has_ending: bool
+def grouped(all_of_them, key):
+    groups = defaultdict(list)
+    for it in all_of_them:
+        groups[key(it)].append(it)
+    return groups
 
 
 def spans_of_lines(lines, ends, kind_of, last):
@@ -71,7 +52,7 @@ def spans_of_lines(lines, ends, kind_of, last):
         spans.append(Span(host, life, name, kind_of(host, name), begun, begun, min(at, end), at < end))
 
     for line in lines:
-        key = (line.host, line.life, line.name)
+        key = whose(line)
         if line.event == "slept":
             for other in [other for other in open_spans if other[:2] == key[:2]]:
                 close(other, line.at)
@@ -91,7 +72,7 @@ def losses(lines):
     `not held` also of a name that it never had."""
     held, lost = set(), []
     for line in lines:
-        key = (line.host, line.life, line.name)
+        key = whose(line)
         if line.event == GRANTED:
             held.add(key)
         elif line.event == "slept":
@@ -114,53 +95,36 @@ def fewer_leases(starts, spans):
 
 def with_answers(spans, answers):
     """The same holds, each sure up to the last question that its host answered."""
-    own = defaultdict(list)
-    for answer in answers:
-        own[answer.host, answer.life, answer.name].append(answer)
-    surer = []
+    own, surer = grouped(answers, whose), []
     for span in spans:
-        given = own[span.host, span.life, span.name]
-        inside = [answer.asked for answer in given if span.begun <= answer.asked and answer.came < span.over]
+        inside = [answer.asked for answer in own[whose(span)] if span.begun <= answer.asked and answer.came < span.over]
         surer.append(span._replace(sure=max(inside, default=span.begun)))
     return surer
 
 
 def spans_of_answers(answers, gap, kind):
     """The holds of a program that prints no lines: answers that follow each other within `gap` seconds."""
-    spans = {}
-    done = []
+    spans = defaultdict(list)
     for answer in answers:
-        key = (answer.host, answer.life, answer.name)
-        open_span = spans.get(key)
-        if open_span and answer.asked - open_span.sure <= gap:
-            spans[key] = open_span._replace(sure=max(open_span.sure, answer.asked), over=answer.came)
-            continue
-        if open_span:
-            done.append(open_span)
-        spans[key] = Span(answer.host, answer.life, answer.name, kind, answer.came, answer.came, answer.came, False)
-    return done + list(spans.values())
-
-
-def by_name(spans):
-    """The holds of each name."""
-    named = defaultdict(list)
-    for span in spans:
-        named[span.name].append(span)
-    return named
+        own = spans[whose(answer)]
+        if own and answer.asked - own[-1].sure <= gap:
+            own[-1] = own[-1]._replace(sure=max(own[-1].sure, answer.asked), over=answer.came)
+        else:
+            own.append(Span(*whose(answer), kind, answer.came, answer.came, answer.came, False))
+    return [span for own in spans.values() for span in own]
 
 
 def pairs_at_once(spans, end_of):
     """Pairs of holds of one name by two hosts, not both of a group, that stand beside one another up to the ends that end_of tells."""
     pairs = []
-    for named in by_name(spans).values():
-        named.sort(key=lambda span: span.begun)
+    for named in grouped(sorted(spans, key=lambda span: span.begun), lambda span: span.name).values():
         for place, first in enumerate(named):
             for second in named[place + 1 :]:
                 if second.begun >= end_of(first):
                     break
-                if first.host != second.host and (first.kind, second.kind) != (GROUP, GROUP):
-                    if min(end_of(first), end_of(second)) > second.begun:
-                        pairs.append((first, second))
+                is_shared = first.host == second.host or first.kind == second.kind == GROUP
+                if not is_shared and min(end_of(first), end_of(second)) > second.begun:
+                    pairs.append((first, second))
     return pairs
 
 
@@ -176,18 +140,14 @@ def only_lines(spans):
 
 
 def is_after_a_pause(answer, pauses):
-    """Whether the host was paused between the question and the answer."""
     return any(begun < answer.came and answer.asked < ended for begun, ended in pauses[answer.host])
 
 
 def answers_against_lines(answers, spans, pauses):
     """Answers for a name that the host's own lines don't say it holds; and those that came after a pause, from a hold that was over."""
-    against, stale = [], []
-    held = defaultdict(list)
-    for span in spans:
-        held[span.host, span.life, span.name].append(span)
+    against, stale, held = [], [], grouped(spans, whose)
     for answer in answers:
-        around = [s for s in held[answer.host, answer.life, answer.name] if s.begun <= answer.came and answer.asked <= s.over]
+        around = [span for span in held[whose(answer)] if span.begun <= answer.came and answer.asked <= span.over]
         after_a_pause = is_after_a_pause(answer, pauses)
         if after_a_pause and all(span.has_ending and span.over <= answer.came + TURN for span in around):
             stale.append(answer)
@@ -198,14 +158,12 @@ def answers_against_lines(answers, spans, pauses):
 
 def server_against_hosts(told, spans, address_of):
     """What the server told of a name, while a host held it for sure, that isn't this host's address, and no other of a unique name."""
-    against = []
-    named = by_name(spans)
+    against, named = [], grouped(spans, lambda span: span.name)
     for reply in told:
         for span in named[reply.name]:
-            if not (span.begun <= reply.asked and reply.came <= span.sure):
-                continue
-            own = address_of(span.host)
-            if own not in reply.addresses or (span.kind != GROUP and len(reply.addresses) > 1):
+            is_during = span.begun <= reply.asked and reply.came <= span.sure
+            is_alone = span.kind == GROUP or len(reply.addresses) <= 1
+            if is_during and not (is_alone and address_of(span.host) in reply.addresses):
                 against.append((reply, span))
     return against
 
@@ -215,8 +173,3 @@ def not_told(told, leases, name, address):
     said that it begins, and for how many seconds."""
     replies = [reply for reply in told if reply.name == name and address not in reply.addresses]
     return [reply for reply in replies if any(at <= reply.asked and reply.came <= at + seconds for at, seconds in leases)]
-
-
-def seconds_of(pairs):
-    """For how long pairs of holds stood beside one another, for sure."""
-    return sum(min(first.sure, second.sure) - max(first.begun, second.begun) for first, second in pairs)

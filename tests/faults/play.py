@@ -3,17 +3,20 @@
 import heapq
 import random
 import selectors
+import subprocess
 import sys
 import time
+from collections import Counter, defaultdict
+from functools import partial
 from itertools import count
 
 import faults
 import judge
+import line
 import network
 import packets
-from book import Book
 from judge import Answer, Told
-from programs import Host, Nmbd, Server, output_of
+from programs import Host, Nmbd, Server
 
 LIFE = "500ms"  # the greatest life of a datagram
 CONTENDED = ["ALPHA", "BRAVO", "CHARLIE"]  # each host wants each of them for itself
@@ -25,60 +28,79 @@ MANY = 64  # how many datagrams are read at once at most
 QUIET = 120  # for how many seconds the hosts may take to get all free names once the faults are over
 
 
-class Play:
-    """The machines, what runs on them, and what is to be done when."""
+def datagrams(port):
+    for _ in range(MANY):
+        try:
+            yield port.recvfrom(2048)
+        except OSError:
+            return
 
-    def __init__(self, run, net, nbt, work, seed, hosts, longest, rival, rates, state, disk, lies):
+
+class Book:
+    """What is written down of a run: lines, answers, pauses, ends and counts, and a log with the seconds of the run."""
+
+    def __init__(self, path):
+        self.log = open(path, "w", buffering=1)
+        self.begun = time.monotonic()
+        self.lines, self.answers, self.told = [], [], []
+        self.leases = []  # of a name of nmbd's own: when the server said that one begins, and for how many seconds
+        self.starts = []  # of a server that keeps its leases: when it was begun, when it said so, and how many leases it had
+        self.ends = {}  # when each life of each program was over
+        self.pauses = defaultdict(list)
+        self.counts = Counter()
+        self.wrong = defaultdict(list)  # what should not have been, under the row that it fails
+        self.heard = None  # called with each line of a host
+
+    def note(self, text):
+        self.log.write(f"{time.monotonic() - self.begun:10.4f} {text}\n")
+
+    def say(self, text):
+        print(text, flush=True)
+        self.note(text)
+
+
+class Play:
+    def __init__(self, work, net, nbt, told, hosts, longest, rates, state, disk, lies):
         self.book = Book(f"{work}/log")
-        self.nbt, self.seed, self.longest, self.contended = nbt, seed, longest, [*CONTENDED, MIXED]
+        self.nbt, self.seed, self.longest, self.contended = nbt, told.seed, longest, [*CONTENDED, MIXED]
         self.poll, self.heard = selectors.DefaultSelector(), {}
         self.tasks, self.ids, self.turns = [], count(), count()
         self.bad, self.cut = set(), set()
         self.rates, self.begun, self.calm, self.settled = rates, 0, 0, False
         self.armed, self.asked, self.checks = {}, {}, {}
-
-        def machine(name, number):
-            return network.Machine(run, name, net, number)
-
-        self.user, self.stranger = machine("user", 2), machine("stranger", 3)
+        self.user, self.stranger = network.Machine("user", net, 2), network.Machine("stranger", net, 3)
+        for number in range(4, 7):
+            network.ip("stranger", f"addr add {net}.{number}/24 dev eth0")
         limits = ["--life", LIFE, "--log"]
-        self.server = Server(machine("server", 1), self.book, self.poll, nbt, limits, longest, state, disk, lies)
-        self.server.on_start = self.ask_server_for_all
-        self.hosts = [self.host(machine(f"h{number}", 10 + number)) for number in range(1, hosts + 1)]
-        if rival:
+        machine = network.Machine("server", net, 1)
+        self.server = Server(machine, self.book, self.poll, nbt, limits, longest, state, disk, lies)
+        self.server.on_start = self.ask_server
+        self.hosts = [self.host(network.Machine(f"h{number}", net, 10 + number)) for number in range(1, hosts + 1)]
+        if told.rival:
             last = self.hosts[-1].machine
             self.hosts[-1] = Nmbd(last, self.book, self.poll, f"{work}/nmbd", self.server.machine.address, CONTENDED[0])
-            self.book.say(f"rival {self.hosts[-1].name}: nmbd {output_of(['nmbd', '--version'])}")
+            version = subprocess.run(["nmbd", "--version"], capture_output=True, text=True).stdout.strip()
+            self.book.say(f"rival {self.hosts[-1].name}: nmbd {version}")
         self.programs = [self.server, *self.hosts]
         self.strangers = [self.stranger.port(137, f"{net}.{number}") for number in range(3, 7)]
-        self.book.on_line = self.on_line
+        self.book.heard = self.on_line
         self.ports = {host.name: self.listen(host.machine.port(), self.on_answer, host) for host in self.hosts}
-        self.checking = self.listen(self.user.port(), self.on_check, None)
+        self.checking = self.listen(self.user.port(), self.on_check)
 
     def host(self, machine):
-        """A host that wants all names."""
-        is_group = machine.number % 2
-        names = CONTENDED if is_group else [*CONTENDED, MIXED]
-        groups = [*GROUPS, MIXED] if is_group else GROUPS
+        names, groups = (CONTENDED, [*GROUPS, MIXED]) if machine.number % 2 else ([*CONTENDED, MIXED], GROUPS)
         limits = ["--life", LIFE, "--longest", f"{self.longest}s"]
         # Where nothing else takes a name from a host, more of them release theirs, so that others get them.
         ending = 0.2 if self.rates.for_each_host else 0.6
-        return Host(machine, self.book, self.poll, self.nbt, limits, self.server.machine.address, names, groups, self.seed, ending)
-
-    # What is waited for.
+        server = self.server.machine.address
+        return Host(machine, self.book, self.poll, self.nbt, limits, server, names, groups, self.seed, ending)
 
     def after(self, seconds, task):
-        """Does something so many seconds later."""
         heapq.heappush(self.tasks, (time.monotonic() + seconds, next(self.ids), task))
 
     def every(self, seconds, task):
-        """Does something again and again."""
-
-        def again():
-            task()
-            self.after(seconds, again)
-
-        again()
+        task()
+        self.after(seconds, lambda: self.every(seconds, task))
 
     def listen(self, source, heard, *more):
         """Calls `heard` when something is there to be read."""
@@ -87,27 +109,21 @@ class Play:
         return source
 
     def unlisten(self, source):
-        """Nobody listens to it any more."""
         self.poll.unregister(source)
         del self.heard[source]
         source.close()
 
-    def turn(self, until):
-        """Does what is due, and reads what is there: the hosts' lines before their answers."""
-        now = time.monotonic()
-        while self.tasks and self.tasks[0][0] <= now:
-            heapq.heappop(self.tasks)[2]()
-        next_due = min(self.tasks[0][0] if self.tasks else until, until)
-        ready = self.poll.select(max(0, next_due - time.monotonic()))
-        self.read_programs()
-        for key, _ in ready:
-            if key.fileobj in self.heard:
-                self.heard[key.fileobj]()
-
-    def play_until(self, moment, is_over=lambda: False):
-        """Takes turns until that moment, or until it is over."""
-        while time.monotonic() < moment and not is_over():
-            self.turn(moment)
+    def play_until(self, until, is_over=lambda: False):
+        """Until that moment, or until it is over, does what is due, and reads what is there: the hosts' lines before their answers."""
+        while (now := time.monotonic()) < until and not is_over():
+            while self.tasks and self.tasks[0][0] <= now:
+                heapq.heappop(self.tasks)[2]()
+            next_due = min(self.tasks[0][0] if self.tasks else until, until)
+            ready = self.poll.select(max(0, next_due - time.monotonic()))
+            self.read_programs()
+            for key, _ in ready:
+                if key.fileobj in self.heard:
+                    self.heard[key.fileobj]()
 
     def read_programs(self):
         """Reads what programs wrote. One that ended by itself is started again."""
@@ -124,17 +140,14 @@ class Play:
                 self.after(random.Random(f"{self.seed} {program.name} {program.life}").uniform(0.1, 6), program.start)
 
     def helper(self, namespace, script, words, over):
-        """Starts a helper, and hands on what it said when it ends."""
-        running = network.starts(namespace, sys.executable, f"{sys.path[0]}/{script}", *map(str, words))
-        self.on_end(running, over)
+        self.on_end(network.starts(namespace, sys.executable, script, *map(str, words)), over)
 
     def on_end(self, running, over):
         """Hands on what a program said, when it ends."""
         said = []
 
         def heard(source):
-            octets = source.read()
-            if octets:
+            if octets := source.read():
                 said.append(octets)
             elif octets == b"":
                 self.unlisten(source)
@@ -143,30 +156,24 @@ class Play:
 
         self.listen(running.stdout, heard)
 
-    # Kills at a request.
-
     def arm(self, host, delay):
         """The host is killed when its next request is seen at the hub."""
         if host.name in self.armed:
             return
-        tap = host.machine.tap()
+        tap = line.link(host.machine.link)
+        tap.setblocking(False)
         self.armed[host.name] = tap
         self.listen(tap, self.on_frame, host, delay)
         self.after(25, lambda: self.disarm(host.name, tap))
 
     def disarm(self, name, tap):
-        """Nobody waits for the host's request any more."""
         if self.armed.get(name) is tap:
             del self.armed[name]
             self.unlisten(tap)
 
     def on_frame(self, tap, host, delay):
-        """Frames were seen."""
-        for _ in range(MANY):
-            try:
-                seen = packets.payload_of(tap.recv(2048))
-            except OSError:
-                return
+        for frame, _ in datagrams(tap):
+            seen = packets.payload_of(frame)
             if seen and seen[0] == host.machine.address and packets.is_request_about_a_name(seen[1]) and host.is_up():
                 host.kill()
                 self.book.counts["kills"] += 1
@@ -180,12 +187,10 @@ class Play:
     def on_line(self, host, line):
         """Where a name was granted, all others are asked for it at once."""
         if line.event == judge.GRANTED and line.name in self.contended:
-            for other in self.hosts:
-                if other is not host:
-                    self.ask(other, line.name)
+            for other in [other for other in self.hosts if other is not host]:
+                self.ask(other, line.name)
 
     def ask(self, host, name):
-        """Asks a host for a name."""
         if not host.is_up() or name not in host.names + host.groups:
             return
         number = next(self.ids) & 0xFFFF
@@ -197,7 +202,6 @@ class Play:
             pass  # its own link is down
 
     def ask_all(self, names, paused):
-        """Asks each host for each name."""
         for host in self.hosts:
             if host.is_up() and host.is_awake() != paused:
                 for name in names:
@@ -205,11 +209,7 @@ class Play:
 
     def on_answer(self, port, host):
         """A host answered. What it printed before is read first."""
-        for _ in range(MANY):
-            try:
-                octets, sender = port.recvfrom(2048)
-            except OSError:
-                return
+        for octets, sender in datagrams(port):
             host.drain()
             came = time.monotonic()
             question = self.asked.pop((host.name, packets.number_of(octets)), None)
@@ -217,39 +217,24 @@ class Play:
                 asked, life, name = question
                 self.book.answers.append(Answer(asked, came, host.name, life, name))
 
-    # Questions to the server.
-
     def names(self):
-        """All names that are asked for."""
-        own = [host.OWN for host in self.hosts if isinstance(host, Nmbd)]
-        return [*self.contended, *GROUPS, *own]
+        return [*self.contended, *GROUPS, *(host.OWN for host in self.hosts if isinstance(host, Nmbd))]
 
-    def ask_server(self):
-        """Has the server asked for the next name."""
+    def ask_server_next(self):
         names = self.names()
-        self.ask_server_for(names[next(self.turns) % len(names)])
+        self.ask_server([names[next(self.turns) % len(names)]])
 
-    def ask_server_for_all(self):
-        """Has the server asked for each name at once, as after a start with its leases."""
-        for name in self.names():
-            self.ask_server_for(name)
-
-    def ask_server_for(self, name):
-        """Has `nbt lookup` ask the server for a name."""
-        asked = time.monotonic()
-        words = ["lookup", name, "--server", self.server.machine.address, "--tries", "1", "--wait", "900ms"]
-        self.on_end(network.starts(self.user.namespace, self.nbt, *words), lambda said: self.on_told(asked, name, said))
+    def ask_server(self, names=None):
+        """Has `nbt lookup` ask the server who has these names; each at once, as after a start with its leases, where none is given."""
+        for name in names or self.names():
+            words = ["lookup", name, "--server", self.server.machine.address, "--tries", "1", "--wait", "900ms"]
+            self.on_end(network.starts(self.user.name, self.nbt, *words), partial(self.on_told, time.monotonic(), name))
 
     def on_told(self, asked, name, said):
-        """The server told who has the name, or nothing."""
         lines = said.splitlines()
-        self.book.counts["questions to the server"] += 1
-        if not lines or lines[0] == "no reply":
-            return
-        addresses = tuple(line.split()[0] for line in lines if line[:1].isdigit())
-        self.book.told.append(Told(asked, time.monotonic(), name, addresses))
-
-    # Health checks.
+        if lines and lines[0] != "no reply":
+            addresses = tuple(line.split()[0] for line in lines if line[:1].isdigit())
+            self.book.told.append(Told(asked, time.monotonic(), name, addresses))
 
     def check_all(self):
         """Asks each machine that is well something that it has to answer, over the network."""
@@ -262,13 +247,8 @@ class Play:
                 self.checking.sendto(octets, (program.machine.address, 137))
                 self.after(PATIENCE, lambda number=number: self.miss(number))
 
-    def on_check(self, port, _):
-        """A reply came."""
-        for _ in range(MANY):
-            try:
-                octets, sender = port.recvfrom(2048)
-            except OSError:
-                return
+    def on_check(self, port):
+        for octets, sender in datagrams(port):
             check = self.checks.get(packets.number_of(octets))
             if check and sender[0] == check[0].machine.address:
                 del self.checks[packets.number_of(octets)]
@@ -281,8 +261,6 @@ class Play:
             self.book.counts["health checks"] += 1
             self.book.wrong["health"].append(f"{check[0].name} asked at {check[2] - self.book.begun:.1f}")
 
-    # The run.
-
     def begin(self):
         """Starts all, and the questions. An nmbd that starts while the server is silent gives up, so it waits where that ends."""
         for program in self.programs:
@@ -293,7 +271,7 @@ class Play:
         self.every(ASKS_HOSTS, lambda: self.ask_all(self.contended, False))
         self.every(ASKS_GROUPS, lambda: self.ask_all(GROUPS, False))
         self.every(ASKS_PAUSED, lambda: self.ask_all(self.contended, True))
-        self.every(ASKS_SERVER, self.ask_server)
+        self.every(ASKS_SERVER, self.ask_server_next)
         self.every(CHECKS, self.check_all)
         self.after(60, lambda: self.every(60, self.say_progress))
 
@@ -349,18 +327,15 @@ class Play:
         self.play_until(time.monotonic() + self.longest)
 
     def last_line(self, event, name):
-        """The last line of a host of that event of a name, if there is one."""
         return next((line for line in reversed(self.book.lines) if (line.event, line.name) == (event, name)), None)
 
     def say_progress(self):
-        """Says how far it is."""
         counts = self.book.counts
         minutes = (time.monotonic() - self.book.begun) / 60
-        doing = ", ".join(f"{counts[word]} {word}" for word in ["kills", "pauses", "cuts", "granted", "lapsed"])
+        doing = ", ".join(f"{counts[word]} {word}" for word in ("kills", "pauses", "cuts", "granted", "lapsed"))
         self.book.say(f"{minutes:4.0f} min: {doing}, {len(self.book.answers)} answers")
 
     def end(self):
-        """Kills what still runs."""
         for program in self.programs:
             if program.is_up():
                 program.kill()

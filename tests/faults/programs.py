@@ -5,7 +5,6 @@ import random
 import re
 import selectors
 import signal
-import subprocess
 import time
 
 import network
@@ -17,7 +16,7 @@ LEASES_KEPT = re.compile(r"^serving \S+, with ([0-9]+) leases? kept(, silent for
 # A line of `nbt nbns` about a lease of nmbd's own name.
 OWN_LEASE = re.compile(r"^\S+Z (?:granted|renewed) NMBD#20 \S+ unique ([0-9]+) s$")
 
-# A line of `nbt host` about a name, as docs/PROTOCOL.md has it. Which suffix the name has plays no part.
+# A line of `nbt host` about a name, as nbt-host(8) has it. Which suffix the name has plays no part.
 ABOUT_A_NAME = re.compile(
     r"^\S+Z (granted|renewed|refused|asks again for|lost|lapsed|given back|give-back denied|give-back unconfirmed|not held)"
     r" ([A-Z0-9]+)#20\b"
@@ -25,42 +24,31 @@ ABOUT_A_NAME = re.compile(
 
 
 class Program:
-    """A program on a machine, that is started again after it ends."""
+    """A program on a machine, that is started again after it ends. Each kind has its own `words`, which start it, and `read_line`."""
 
     def __init__(self, machine, book, poll):
         self.machine, self.book, self.poll = machine, book, poll
-        self.name = machine.name
-        self.running = None
-        self.life = 0
-        self.paused_since = None
-        self.rest = b""
-
-    def words(self):
-        """What is started. Each kind of program has its own."""
-        raise NotImplementedError
+        self.name, self.running, self.life, self.paused_since, self.rest = machine.name, None, 0, None, b""
 
     def read_line(self, at, text):
-        """What a line says. Each kind of program has its own."""
+        pass
 
     def silence(self):
         """For how many seconds after its start it may say nothing."""
         return 0
 
     def is_up(self):
-        """Whether it runs."""
         return self.running is not None
 
     def is_awake(self):
-        """Whether it runs, and isn't paused."""
         return self.is_up() and self.paused_since is None
 
     def start(self):
-        """Starts it, unless it runs."""
         if self.is_up():
             return
         self.life += 1
         self.rest = b""
-        self.running = network.starts(self.machine.namespace, *self.words())
+        self.running = network.starts(self.machine.name, *self.words())
         self.poll.register(self.running.stdout, selectors.EVENT_READ)
         self.machine.well_from = time.monotonic() + network.SETTLES + self.silence()
         self.book.note(f"{self.name} starts, {self.life}")
@@ -82,24 +70,15 @@ class Program:
                 self.read_line(at, text)
         return False
 
-    def signal(self, number):
-        """Sends its process a signal."""
-        try:
-            os.kill(self.running.pid, number)
-        except ProcessLookupError:
-            pass
-
     def kill(self):
-        """Kills it at once. What it wrote is still read."""
-        self.signal(signal.SIGKILL)
+        self.running.kill()
         at = time.monotonic()
         self.running.wait()
         self.drain()
         self.end(at)
 
     def end(self, at):
-        """It is over. Returns its status."""
-        self.resume_note(at)
+        self.end_pause(at)
         status = self.running.wait()
         self.poll.unregister(self.running.stdout)
         self.running.stdout.close()
@@ -110,21 +89,18 @@ class Program:
         return status
 
     def pause(self):
-        """Stops it where it is."""
         self.machine.disturb()
-        self.signal(signal.SIGSTOP)
+        self.running.send_signal(signal.SIGSTOP)
         self.paused_since = time.monotonic()
         self.book.note(f"{self.name} is paused")
 
     def resume(self):
-        """Lets it go on."""
         if self.paused_since is not None:
             self.book.note(f"{self.name} goes on")
-            self.signal(signal.SIGCONT)
-            self.resume_note(time.monotonic())
+            self.running.send_signal(signal.SIGCONT)
+            self.end_pause(time.monotonic())
 
-    def resume_note(self, at):
-        """Writes down that a pause is over."""
+    def end_pause(self, at):
         if self.paused_since is not None:
             self.book.pauses[self.name].append((self.paused_since, at))
             self.paused_since = None
@@ -132,13 +108,10 @@ class Program:
 
 
 class Server(Program):
-    """`nbt nbns`."""
-
     def __init__(self, machine, book, poll, nbt, limits, longest, state, disk, lies):
         super().__init__(machine, book, poll)
         self.nbt, self.limits, self.longest, self.state, self.disk, self.lies = nbt, limits, longest, state, disk, lies
-        self.on_start, self.has_begun = None, False
-        self.begun = 0.0  # when its last life began
+        self.on_start, self.has_begun, self.begun = None, False, 0.0  # when its last life began
 
     def words(self):
         kept = ["--state", self.state] if self.state else []
@@ -175,7 +148,7 @@ class Server(Program):
 
 
 class Host(Program):
-    """`nbt host`, with names of its own alone and groups."""
+    """`nbt host`, with names of its own alone and groups. Some starts, drawn by `ending`, give the names back after a while."""
 
     def __init__(self, machine, book, poll, nbt, limits, server, names, groups, seed, ending):
         super().__init__(machine, book, poll)
@@ -183,14 +156,11 @@ class Host(Program):
         self.names, self.groups, self.seed, self.ending = names, groups, seed, ending
 
     def words(self):
-        groups = [word for group in self.groups for word in ("--group", group)]
-        own = ["--server", self.server, "--bind", self.machine.address, *self.limits, "--log", *self.time()]
-        return [self.nbt, "host", *self.names, *groups, *own]
-
-    def time(self):
-        """Some starts are of a host that gives its names back after a while."""
         draw = random.Random(f"{self.seed} {self.name} {self.life}")
-        return ["--for", f"{draw.randrange(15, 60)}s"] if draw.random() < self.ending else []
+        ends_after = ["--for", f"{draw.randrange(15, 60)}s"] if draw.random() < self.ending else []
+        groups = [word for group in self.groups for word in ("--group", group)]
+        ends = ["--server", self.server, "--bind", self.machine.address]
+        return [self.nbt, "host", *self.names, *groups, *ends, *self.limits, "--log", *ends_after]
 
     def read_line(self, at, text):
         if " slept, " in text:
@@ -211,21 +181,14 @@ class Nmbd(Program):
         super().__init__(machine, book, poll)
         self.folder, self.names, self.groups = folder, [name], []
         os.makedirs(f"{folder}/run", exist_ok=True)
-        places = ["lock directory", "state directory", "cache directory", "private dir", "pid directory"]
-        sockets = ["nmbd:socket dir", "ncalrpc dir"]
         with open(f"{folder}/smb.conf", "w") as file:
             file.write(f"[global]\nnetbios name = {name}\nnetbios aliases = {self.OWN}\nworkgroup = RIVALS\n")
             file.write(f"wins server = {server}\nlocal master = no\n")
             file.write(f"bind interfaces only = yes\ninterfaces = {machine.address}/24\nlog level = 2\n")
-            file.writelines(f"{place} = {folder}\n" for place in places)
-            file.writelines(f"{place} = {folder}/run\n" for place in sockets)
+            for place in ("lock directory", "state directory", "cache directory", "private dir", "pid directory"):
+                file.write(f"{place} = {folder}\n")
+            file.write(f"nmbd:socket dir = {folder}/run\nncalrpc dir = {folder}/run\n")
 
     def words(self):
         # Without --debug-stdout it closes its output, by whose end its own is seen.
         return ["nmbd", "--foreground", "--no-process-group", "--debug-stdout", f"--configfile={self.folder}/smb.conf"]
-
-
-def output_of(words):
-    """What a command prints, its first line."""
-    said = subprocess.run(words, capture_output=True, text=True)
-    return said.stdout.strip().splitlines()[0] if said.stdout.strip() else ""

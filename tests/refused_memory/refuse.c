@@ -2,10 +2,8 @@
    With REFUSE=0 none is refused; REFUSE_COUNT names a file that then gets their number. For the test beside it. */
 #define _GNU_SOURCE
 #include <errno.h>
-#include <fcntl.h>
 #include <stdio.h>
 #include <stdlib.h>
-#include <unistd.h>
 
 extern void *__libc_malloc(size_t);
 extern void *__libc_realloc(void *, size_t);
@@ -13,20 +11,13 @@ extern void *__libc_calloc(size_t, size_t);
 extern void *__libc_memalign(size_t, size_t);
 
 static long count, refused = -1;
-static int all;
 
 static int is_refused(void) {
-    if (refused < 0) {
-        const char *number = getenv("REFUSE");
-        refused = number ? atol(number) : 0;
-        all = getenv("REFUSE_ALL") != NULL;
-    }
+    if (refused < 0) refused = getenv("REFUSE") ? atol(getenv("REFUSE")) : 0;
     count++;
-    if (refused > 0 && (count == refused || (all && count > refused))) {
-        errno = ENOMEM;
-        return 1;
-    }
-    return 0;
+    if (refused == 0 || count < refused || (count > refused && !getenv("REFUSE_ALL"))) return 0;
+    errno = ENOMEM;
+    return 1;
 }
 
 void *malloc(size_t size) { return is_refused() ? NULL : __libc_malloc(size); }
@@ -36,10 +27,7 @@ void *aligned_alloc(size_t align, size_t size) { return is_refused() ? NULL : __
 
 __attribute__((destructor)) static void tell(void) {
     const char *name = getenv("REFUSE_COUNT");
-    if (name) {
-        char line[32];
-        int length = snprintf(line, sizeof line, "%ld\n", count);
-        int file = open(name, O_WRONLY | O_CREAT | O_TRUNC, 0600);
-        if (file >= 0 && write(file, line, (size_t)length) < 0) _exit(70);
-    }
+    const long all = count;
+    FILE *file = name ? fopen(name, "w") : NULL;
+    if (file && (fprintf(file, "%ld\n", all) < 0 || fclose(file))) _Exit(70);
 }

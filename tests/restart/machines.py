@@ -7,25 +7,23 @@ differ from it (clocks.c); a host's has not.
 import mmap
 import os
 import re
-import select
-import socket
 import struct
-import subprocess
-import sys
 import tempfile
 import threading
 import time
 import uuid
+from functools import partialmethod
+from pathlib import Path
 
-sys.path.insert(0, f"{os.path.dirname(sys.path[0])}/faults")
-import packets  # noqa: E402
+import packets
+from packets import Asking, udp
+from running import Running
 
 LIFE = "500ms"
 LONGEST = 30  # seconds: the least that is accepted
 STEADY, DAY, READING, STALL, LATE, SYNC = range(6)  # the numbers of clocks.c
 NUMBERS = 8 * 6  # their octets
 PACE = 0.02  # seconds between two requests of a rival
-SOON = 20.0  # for how many seconds at most a first line is waited for
 
 
 def hold(seconds):
@@ -34,35 +32,28 @@ def hold(seconds):
 
 
 def is_granted(octets):
-    """Whether octets are a reply that grants a name, or renews it."""
     return bool(octets) and not octets[3] & 0x0F
 
 
 class Machine:
-    """Clocks and a boot, which a scene changes."""
-
     def __init__(self, library, folder, uptime):
         self.environment = dict(os.environ, LD_PRELOAD=library, CLOCKS=f"{folder}/clocks", BOOT_ID=f"{folder}/boot_id")
-        with open(f"{folder}/clocks", "wb+") as file:
-            file.write(bytes(NUMBERS))
-            file.flush()
+        Path(f"{folder}/clocks").write_bytes(bytes(NUMBERS))
+        with open(f"{folder}/clocks", "rb+") as file:
             self.numbers = mmap.mmap(file.fileno(), NUMBERS)
         self.boot(uptime)
 
     def put(self, number, value):
-        """A number of clocks.c is this one."""
         struct.pack_into("<q", self.numbers, 8 * number, value)
 
     def step(self, number, seconds):
-        """A clock goes that far ahead, or back."""
         (before,) = struct.unpack_from("<q", self.numbers, 8 * number)
         self.put(number, before + round(1000 * seconds))
 
     def boot(self, uptime):
         """It is in another boot, in which its steady clock reads so many seconds."""
         self.boot_id = str(uuid.uuid4())
-        with open(self.environment["BOOT_ID"], "w") as file:
-            file.write(f"{self.boot_id}\n")
+        Path(self.environment["BOOT_ID"]).write_text(f"{self.boot_id}\n")
         self.put(STEADY, round(1000 * (uptime - time.monotonic())))
 
     def times(self):
@@ -71,81 +62,35 @@ class Machine:
         return round(1000 * time.monotonic()) + steady, round(1000 * time.time()) + day
 
 
-class Server:
-    """A name server that keeps its leases in a folder, at an address of its own."""
+class Server(Running):
+    """A name server that keeps its leases in a folder, at an address of its own. `around` are the words of a command that starts it."""
 
-    def __init__(self, nbt, machine, address, folder, longest=LONGEST, fixed=None, umask=-1, words=()):
+    def __init__(self, nbt, address, folder, longest=LONGEST, words=(), around=(), **how):
         kept = ["--life", LIFE, "--longest", f"{longest}s", "--state", folder]
-        kept += ["--fixed", fixed] if fixed else []
-        around = machine.environment if machine else None
-        command = [nbt, "nbns", "--bind", address, *kept, *words]
-        self.running = subprocess.Popen(command, stdout=subprocess.PIPE, stderr=subprocess.STDOUT, env=around, umask=umask)
-        os.set_blocking(self.running.stdout.fileno(), False)
-        self.said = b""
+        super().__init__([*around, nbt, "nbns", "--bind", address, *kept, *words], **how)
 
-    def read(self):
-        """What it has said so far."""
-        self.said += self.running.stdout.read() or b""
-        return self.said.decode()
-
-    def line(self, seconds=SOON):
-        """Its first line, without the line's end; what there is of it where it doesn't come in so long."""
-        until = time.monotonic() + seconds
-        while "\n" not in self.read() and (left := until - time.monotonic()) > 0 and self.running.poll() is None:
-            select.select([self.running.stdout], [], [], min(left, 0.1))
-        return self.read().split("\n")[0]
-
-    def status(self, seconds):
-        """The status with which it ended within so long, or None."""
-        try:
-            return self.running.wait(seconds)
-        except subprocess.TimeoutExpired:
-            return None
-
-    def kill(self):
-        """It ends as in a crash."""
-        self.running.kill()
-        self.running.wait()
-        return self.read()
+    def line(self):
+        """Its first line; what there is of it where it doesn't come."""
+        return self.says() or self.said()
 
 
-class Host:
-    """A host at an address of its own. Its names are unique, and of suffix 20."""
-
+class Host(Asking):
     def __init__(self, address, server):
-        self.address, self.server, self.number = address, (server, 137), 0
-        self.port = socket.socket(socket.AF_INET, socket.SOCK_DGRAM)
-        self.port.bind((address, 137))
-
-    def send(self, octets_of):
-        """Sends a request: its octets are those that belong to its number."""
-        self.number = self.number % 65535 + 1
-        self.port.sendto(octets_of(self.number), self.server)
-
-    def reply(self, seconds):
-        """The reply to the last request, if it comes in so long."""
-        until = time.monotonic() + seconds
-        while (left := until - time.monotonic()) > 0:
-            self.port.settimeout(left)
-            try:
-                octets = self.port.recv(600)
-            except TimeoutError:
-                return b""
-            if packets.number_of(octets) == self.number:
-                return octets
-        return b""
+        super().__init__(udp(address, 137), (server, 137))
+        self.address = address
 
     def ask(self, flags, name, seconds=LONGEST, patience=0.5):
         """Asks for a name for so many seconds, or to renew it: when its hold ends, if that was granted, else None."""
         begun = time.monotonic()
-        self.send(lambda number: packets.request(number, flags, name, packets.UNIQUE, self.address, seconds))
-        octets = self.reply(patience)
+        octets = self.replied(flags, name, seconds, patience)
         return begun + hold(int.from_bytes(octets[-12:-8], "big")) if is_granted(octets) else None
+
+    register = partialmethod(ask, packets.REGISTRATION)
+    refresh = partialmethod(ask, packets.REFRESH)
 
     def holders(self, name, patience=0.5):
         """Whom the server says the name belongs to: None without any reply."""
-        self.send(lambda number: packets.query(number, name))
-        octets = self.reply(patience)
+        octets = self.told(name, patience)
         return [address for _, address in packets.entries_of(octets)] if octets else None
 
 
@@ -181,7 +126,7 @@ class Holder(threading.Thread):
     def __init__(self, host, names, seconds):
         super().__init__(daemon=True)
         self.host, self.seconds, self.is_over, self.lost = host, seconds, False, set()
-        self.ends = {name: host.ask(packets.REGISTRATION, name, seconds) or 0 for name in names}
+        self.ends = {name: host.register(name, seconds) or 0 for name in names}
         self.start()
 
     def run(self):
@@ -189,57 +134,69 @@ class Holder(threading.Thread):
             for name, end in self.ends.items():
                 if time.monotonic() > end:
                     self.lost.add(name)
-                self.ends[name] = max(end, self.host.ask(packets.REFRESH, name, self.seconds, patience=0.4) or 0)
+                self.ends[name] = max(end, self.host.refresh(name, self.seconds, patience=0.4) or 0)
             time.sleep(0.5)
 
     def stop(self):
-        """It refreshes nothing more."""
         self.is_over = True
         self.join()
 
 
-class Lab:
-    """Where scenes are played: the program, the library, a folder, and networks of the loopback, which no two scenes share."""
+class Net:
+    """A network of the loopback, which no two scenes share, and a folder for the server at its first address."""
 
-    def __init__(self, nbt, library, work):
-        self.nbt, self.library, self.work = nbt, library, work
-        self.lock, self.networks, self.servers = threading.Lock(), 0, []
+    def __init__(self, lab, number, machine=None):
+        self.lab, self.net, self.machine, self.folder = lab, f"127.{1 + number // 250}.{1 + number % 250}", machine, lab.folder()
 
-    def network(self):
-        """The first three numbers of addresses of a network that nobody uses yet."""
-        with self.lock:
-            self.networks += 1
-            return f"127.{1 + self.networks // 250}.{1 + self.networks % 250}"
+    def at(self, number):
+        return f"{self.net}.{number}"
 
-    def folder(self):
-        """An empty folder."""
-        return tempfile.mkdtemp(dir=self.work)
+    def host(self, number, server=1):
+        return Host(self.at(number), self.at(server))
 
-    def machine(self, uptime=5000):
-        """A machine that is up for so many seconds."""
-        return Machine(self.library, self.folder(), uptime)
+    def rival(self, number, name, server=1, **how):
+        return Rival(self.host(number, server), name, **how)
 
-    def serve(self, machine, address, folder, **limits):
-        """A server of this lab, which is killed at its end. Without a machine it has the clocks of the one on which all of this runs."""
-        server = Server(self.nbt, machine, address, folder, **limits)
-        with self.lock:
-            self.servers.append(server)
+    def serve(self, number=1, machine=None, folder=None, **how):
+        """A server over the folder, or another one. Without a machine it has the clocks of the one on which all of this runs."""
+        machine = machine or self.machine
+        server = Server(self.lab.nbt, self.at(number), folder or self.folder, env=machine and machine.environment, **how)
+        self.lab.servers.append(server)
         return server
 
-    def speaking(self, machine, address, folder, **limits):
+    def speaking(self, **how):
         """A server over an empty folder, whose silence is over."""
-        server = self.serve(machine, address, folder, **limits)
+        server = self.serve(**how)
         server.line()
         time.sleep(LONGEST + 0.3)
         return server
 
+
+class Lab:
+    def __init__(self, nbt, library, work):
+        self.nbt, self.library, self.work = nbt, library, work
+        self.lock, self.networks, self.servers = threading.Lock(), 0, []
+
+    def net(self, machine=None):
+        with self.lock:
+            self.networks += 1
+            return Net(self, self.networks, machine)
+
+    def folder(self):
+        return tempfile.mkdtemp(dir=self.work)
+
+    def machine(self, uptime=5000):
+        return Machine(self.library, self.folder(), uptime)
+
     def end(self):
-        """No server is left."""
         for server in self.servers:
             server.kill()
 
 
-def is_kept(line, leases):
-    """Whether a first line says that so many leases were kept, and that it is silent for no longer than a second."""
-    word = "lease" if leases == 1 else "leases"
-    return re.fullmatch(rf"serving \S+, with {leases} {word} kept(, silent for 1 s until \S+)?", line) is not None
+def kept(leases, more=r"(, silent for 1 s until \S+)?"):
+    """The pattern of a first line that says that so many leases were kept, and that it is silent for no longer than a second."""
+    return rf"serving \S+, with {leases} lease{'' if leases == 1 else 's'} kept{more}"
+
+
+def unlike(line, pattern):
+    return "" if re.fullmatch(pattern, line) else f"it says {line!r}"
