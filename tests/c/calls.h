@@ -85,59 +85,12 @@ static uint8_t listen(void) {
     return nbt_listener_listen(&it.listener, &in.entry);
 }
 
-#define LIST(X) \
-    X(name_make, NAME, "o", OF_NAMES, nbt_name_make(in.octets, in.octets + 16, in.count - 16, &out.name)) \
-    X(name_any, NAME, "o", OF_NAMES, nbt_name_any(in.octets, in.count, &out.name)) \
-    X(name_read, WORD, "uwx", OF_NAMES, \
-      nbt_name_read(in.number != 0, in.word, strlen(in.word), in.scope, strlen(in.scope), &out.name, &out.place)) \
-    X(name_to_word, ANY, "nr", OF_NAMES, nbt_name_to_word(&in.name, out.text, in.room, &out.size)) \
-    X(name_to_scope, ANY, "nr", OF_NAMES, nbt_name_to_scope(&in.name, out.text, in.room, &out.size)) \
-    X(name_to_wire, ANY, "nr", OF_NAMES, nbt_name_to_wire(&in.name, out.out, in.room, &out.size)) \
-    X(name_from_wire, WIRE, "uo", OF_NAMES, nbt_name_from_wire(in.octets, in.count, in.number, &out.name, &out.place)) \
-    X(name_in_packet, WIRE, "uo", OF_NAMES, nbt_name_in_packet(in.octets, in.count, in.number, &out.name, &out.place)) \
-    X(node_start, START, "bact", OF_NODES, nbt_node_start(&it.node, in.own, in.from, in.config, in.now)) \
-    X(node_start_from, START, "bactu", OF_NODES, \
-      nbt_node_start_from(&it.node, in.own, in.from, in.config, in.now, (uint16_t)in.number)) \
-    X(node_ask, ASK, "tnku", OF_NODES, \
-      nbt_node_ask(&it.node, in.now, &in.name, in.kind, (uint32_t)in.number, out.out, &out.size)) \
-    X(node_release, RELEASE, "tn", OF_NODES, nbt_node_release(&it.node, in.now, &in.name, out.out, &out.size)) \
-    X(node_resolve, LOOKUP, "tn", OF_NODES, nbt_node_resolve(&it.node, in.now, &in.name, out.out, &out.size)) \
-    X(node_name_status, LOOKUP, "tan", OF_NODES, nbt_node_name_status(&it.node, in.now, in.from, &in.name, out.out, &out.size)) \
-    X(node_on_datagram, NODE, "taro", OF_NODES, \
-      nbt_node_on_datagram(&it.node, in.now, in.from, in.octets, in.count, &out.event, out.lent, in.room, out.out, &out.size)) \
-    X(node_poll, NODE, "t", OF_NODES, nbt_node_poll(&it.node, in.now, &out.to, out.out, &out.size)) \
-    X(node_next_due, ANY, "", OF_NODES, nbt_node_next_due(&it.node, &out.due)) \
-    X(node_state, NODE, "tn", OF_NODES, nbt_node_state(&it.node, in.now, &in.name, &out.state)) \
-    X(node_holds, ANY, "tn", OF_NODES, nbt_node_holds(&it.node, in.now, &in.name, &out.held)) \
-    X(joiner_start, ANY, "", OF_NO_GROUP, (nbt_joiner_start(&it.joiner), (uint8_t)NBT_DONE)) \
-    X(datagram_accept, ANY, "tbro", OF_DATAGRAMS, \
-      nbt_datagram_accept(&it.joiner, &it.node, in.now, in.own, in.octets, in.count, &out.accept, out.lent, in.room, out.out, &out.size)) \
-    X(datagram_read, DATAGRAM, "o", OF_DATAGRAMS, nbt_datagram_read(in.octets, in.count, &out.datagram, &out.place)) \
-    X(datagram_split, SPLIT, "duanmo", OF_DATAGRAMS, \
-      nbt_datagram_split(in.kind, (uint16_t)in.number, in.from, &in.name, &in.other, in.octets, in.count, out.out, &out.size, out.second, \
-                         &out.second_size)) \
-    X(pieces_start, ANY, "", OF_SESSIONS, (nbt_pieces_start(&it.pieces), (uint8_t)NBT_DONE)) \
-    X(pieces_take, STREAM, "o", OF_SESSIONS, take()) \
-    X(given, ANY, "aunm", OF_SESSIONS, give()) \
-    X(session_write, ANY, "p", OF_SESSIONS, nbt_session_write(&in.packet, out.out, &out.size)) \
-    X(session_message, MESSAGE, "u", OF_SESSIONS, nbt_session_message(in.number, out.out)) \
-    X(caller_begin, ANY, "nma", OF_SESSIONS, nbt_caller_begin(&it.caller, &in.name, &in.other, in.from)) \
-    X(caller_on, ANY, "hp", OF_SESSIONS, nbt_caller_on(&it.caller, in.kind, &in.packet, &out.answer, out.out, &out.size)) \
-    X(listener_start, ANY, "u", OF_NO_GROUP, nbt_listener_start(&it.listener, in.number)) \
-    X(listener_listen, ANY, "num", OF_SESSIONS, listen()) \
-    X(listener_unlisten, ANY, "n", OF_SESSIONS, nbt_listener_unlisten(&it.listener, &in.name)) \
-    X(listener_on, ANY, "tuhp", OF_SESSIONS, \
-      nbt_listener_on(&it.listener, &it.node, in.now, in.number, in.kind, &in.packet, &out.next, out.out, &out.size)) \
-    X(server_start, START, "ct", OF_SERVERS, nbt_server_start(&it.server, in.config, in.now)) \
-    X(server_on_datagram, SERVER, "tao", OF_SERVERS, \
-      nbt_server_on_datagram(&it.server, in.now, in.from, in.octets, in.count, out.out, &out.size)) \
-    X(server_lease, SERVER, "tnu", OF_SERVERS, nbt_server_lease(&it.server, in.now, &in.name, in.number, &out.lease)) \
-    X(server_row, SERVER, "u", OF_SERVERS, nbt_server_row(&it.server, in.number, &out.name, &out.lease)) \
-    X(server_end, ANY, "", OF_SERVERS, (nbt_server_end(&it.server), (uint8_t)NBT_DONE))
-
-#define MAKE(word, calls, letters, most, call) \
+#define X(word, calls, letters, most, call) \
     static void make_##word(void) { out.result = call; }
-LIST(MAKE)
+#include "calls.txt"
+#undef X
 
-#define ROW(word, calls, letters, most, call) {#word, NBT_OF_##calls, letters, most, make_##word},
-static const struct call CALLS[] = {LIST(ROW)};
+#define X(word, calls, letters, most, call) {#word, NBT_OF_##calls, letters, most, make_##word},
+static const struct call CALLS[] = {
+#include "calls.txt"
+};

@@ -266,14 +266,10 @@ static void tell_event(const struct nbt_event *event) {
     if (touched(event, sizeof *event) == 0)
         return;
     tell_kind(OF_AN_EVENT, &event->kind);
-    if (event->rcode != 0)
-        tell(", RCODE %u", event->rcode);
-    if (event->cut)
-        tell(", cut");
-    if (event->seconds != 0)
-        tell(", %" PRIu32 " s", event->seconds);
-    if (event->size != 0)
-        tell(", of %zu", event->size);
+    tell(event->rcode != 0 ? ", RCODE %u" : "", event->rcode);
+    tell(event->cut ? ", cut" : "");
+    tell(event->seconds != 0 ? ", %" PRIu32 " s" : "", event->seconds);
+    tell(event->size != 0 ? ", of %zu" : "", event->size);
     if (event->name.octets[0] != 0)
         tell_written_name("", &event->name);
 }

@@ -5,17 +5,9 @@
  * as where a machine loses its power. A file that is read, sought or truncated, or opened once more, is written first, which a system
  * may do at any time too. Where DISK_LIES is set a sync does nothing, so that a run without any shows what is lost then.
  */
-#define _GNU_SOURCE
-#include <dlfcn.h>
-#include <fcntl.h>
-#include <limits.h>
-#include <stdarg.h>
-#include <stdio.h>
-#include <stdlib.h>
-#include <string.h>
+#include "../lib/before_libc.h"
+
 #include <sys/stat.h>
-#include <time.h>
-#include <unistd.h>
 
 enum { MOST = 1024, EARLY = 8 }; /* the greatest descriptor that is watched; of so many writes one is followed by an early one */
 
@@ -28,8 +20,6 @@ static struct file {
 
 /* A renaming that waits for the folder's sync. */
 static char renamed_from[PATH_MAX], renamed_to[PATH_MAX];
-
-#define REAL(name) ((__typeof__(&name))dlsym(RTLD_NEXT, #name))
 
 static int is_ours(const char *path) {
     const char *folder = getenv("DISK_FOLDER");
@@ -77,17 +67,13 @@ static unsigned drawn(unsigned below) {
 }
 
 int open(const char *path, int flags, ...) {
-    va_list more;
-    va_start(more, flags);
-    mode_t mode = flags & O_CREAT ? va_arg(more, mode_t) : 0;
-    va_end(more);
     struct stat is;
     int ours = is_ours(path);
     if (ours && !(flags & O_DIRECTORY) && !(stat(path, &is) == 0 && S_ISDIR(is.st_mode))) {
         put_renaming();
         put_everything();
     }
-    int fd = REAL(open)(path, flags, mode);
+    int fd = REAL(open)(path, flags, MODE_BEHIND(flags));
     if (ours && fd >= 0 && fd < MOST && fstat(fd, &is) == 0)
         files[fd] = (struct file){.is_watched = (flags & O_ACCMODE) != O_RDONLY, .is_folder = S_ISDIR(is.st_mode)};
     return fd;
@@ -108,11 +94,6 @@ ssize_t write(int fd, const void *octets, size_t count) {
     return count;
 }
 
-/* The C library has the same call by this name too. */
-ssize_t __write(int fd, const void *octets, size_t count) {
-    return write(fd, octets, count);
-}
-
 int fsync(int fd) {
     if (getenv("DISK_LIES"))
         return 0;
@@ -122,9 +103,9 @@ int fsync(int fd) {
     return 0;
 }
 
-int fdatasync(int fd) {
-    return fsync(fd);
-}
+/* The same calls by other names. */
+ssize_t __write(int fd, const void *octets, size_t count) __attribute__((alias("write")));
+int fdatasync(int fd) __attribute__((alias("fsync")));
 
 int rename(const char *from, const char *to) {
     if (!is_ours(to))
@@ -137,20 +118,15 @@ int rename(const char *from, const char *to) {
     return 0;
 }
 
-off_t lseek(int fd, off_t offset, int whence) {
-    put_all(fd);
-    return REAL(lseek)(fd, offset, whence);
-}
-
-ssize_t read(int fd, void *octets, size_t count) {
-    put_all(fd);
-    return REAL(read)(fd, octets, count);
-}
-
-int ftruncate(int fd, off_t length) {
-    put_all(fd);
-    return REAL(ftruncate)(fd, length);
-}
+/* A call that needs all that was written to the file. */
+#define AFTER_ALL(type, name, parameters, arguments) \
+    type name parameters { \
+        put_all(fd); \
+        return REAL(name) arguments; \
+    }
+AFTER_ALL(off_t, lseek, (int fd, off_t offset, int whence), (fd, offset, whence))
+AFTER_ALL(ssize_t, read, (int fd, void *octets, size_t count), (fd, octets, count))
+AFTER_ALL(int, ftruncate, (int fd, off_t length), (fd, length))
 
 int close(int fd) {
     struct file *file = watched(fd);

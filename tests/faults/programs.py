@@ -6,6 +6,7 @@ import re
 import selectors
 import signal
 import time
+from pathlib import Path
 
 import network
 from judge import Line
@@ -181,13 +182,9 @@ class Nmbd(Program):
         super().__init__(machine, book, poll)
         self.folder, self.names, self.groups = folder, [name], []
         os.makedirs(f"{folder}/run", exist_ok=True)
-        with open(f"{folder}/smb.conf", "w") as file:
-            file.write(f"[global]\nnetbios name = {name}\nnetbios aliases = {self.OWN}\nworkgroup = RIVALS\n")
-            file.write(f"wins server = {server}\nlocal master = no\n")
-            file.write(f"bind interfaces only = yes\ninterfaces = {machine.address}/24\nlog level = 2\n")
-            for place in ("lock directory", "state directory", "cache directory", "private dir", "pid directory"):
-                file.write(f"{place} = {folder}\n")
-            file.write(f"nmbd:socket dir = {folder}/run\nncalrpc dir = {folder}/run\n")
+        settings = Path(f"{network.TOP}/tests/lib/smb.conf.txt").read_text().replace("FOLDER", folder).replace("NAME", name)
+        own = f"netbios aliases = {self.OWN}\nwins server = {server}\nbind interfaces only = yes\ninterfaces = {machine.address}/24\n"
+        Path(f"{folder}/smb.conf").write_text(settings + own)
 
     def words(self):
         # Without --debug-stdout it closes its output, by whose end its own is seen.

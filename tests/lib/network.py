@@ -31,7 +31,7 @@ def apart(*wanted):
     if os.geteuid() or not all(map(shutil.which, wanted)):
         complain(f"wants root, {', '.join(wanted)}")
     if "APART" not in os.environ:
-        words = ["unshare", "--mount", "--net", "--pid", "--fork", "--kill-child", "--mount-proc", sys.executable, *sys.argv]
+        words = ["unshare", "--mount", "--net", "--pid", "--fork", "--kill-child", "--mount-proc", sys.executable, "-B", *sys.argv]
         os.execvpe(words[0], words, dict(os.environ, APART="1"))
     del os.environ["APART"]
     signal.signal(signal.SIGTERM, lambda *_: sys.exit(130))
@@ -48,6 +48,12 @@ def find_program(given, path):
         script = 'top=$1 self=$0 && source "$top/tools/built" && put_program "$2"'
         if subprocess.run(["bash", "-c", script, sys.argv[0], TOP, path]).returncode:
             sys.exit(2)
+
+
+def compiled(source, path):
+    """Makes a library of this source, to be loaded before libc. Returns its path."""
+    subprocess.run([os.environ.get("CC", "cc"), "-shared", "-fPIC", "-O1", "-o", path, source, "-ldl"], check=True)
+    return path
 
 
 class Rows:
@@ -144,13 +150,8 @@ class Machine:
         """Its link leaves the hub, and two others are there, over which a bad line goes. Returns the two that the line joins."""
         self.disturb()
         near, far = f"w{self.number}", f"x{self.number}"
-        ip(
-            None,
-            f"link add name {near} type veth peer name {far}",
-            f"link set {far} master bridge up",
-            f"link set {near} up",
-            f"link set {self.link} nomaster",
-        )
+        ip(None, f"link add name {near} type veth peer name {far}", f"link set {far} master bridge up")
+        ip(None, f"link set {near} up", f"link set {self.link} nomaster")
         return self.link, near
 
     def straighten(self):

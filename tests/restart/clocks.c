@@ -7,21 +7,11 @@
  * next lock is late; and for how many each sync of a file's octets lasts. A stall and a late lock come once. BOOT_ID names a file that is
  * read in the place of the boot's id.
  */
-#define _GNU_SOURCE
-#include <dlfcn.h>
-#include <errno.h>
-#include <fcntl.h>
-#include <stdarg.h>
-#include <stdint.h>
-#include <stdlib.h>
-#include <string.h>
+#include "../lib/before_libc.h"
+
 #include <sys/file.h>
 #include <sys/mman.h>
 #include <sys/syscall.h>
-#include <time.h>
-#include <unistd.h>
-
-#define REAL(name) ((__typeof__(&name))dlsym(RTLD_NEXT, #name))
 
 static const char BOOT[] = "/proc/sys/kernel/random/boot_id";
 
@@ -81,10 +71,6 @@ int fdatasync(int fd) {
 }
 
 int open(const char *path, int flags, ...) {
-    va_list more;
-    va_start(more, flags);
-    mode_t mode = flags & O_CREAT ? va_arg(more, mode_t) : 0;
-    va_end(more);
     const char *id = getenv("BOOT_ID");
-    return REAL(open)(id && strcmp(path, BOOT) == 0 ? id : path, flags, mode);
+    return REAL(open)(id && strcmp(path, BOOT) == 0 ? id : path, flags, MODE_BEHIND(flags));
 }

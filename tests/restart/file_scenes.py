@@ -331,10 +331,8 @@ def kills(lab):
     server.line()
     time.sleep(longest)
     limits = ["--server", net.at(1), "--life", LIFE, "--longest", f"{longest}s"]
-    hosts = [
-        Running([lab.nbt, "host", *(f"H{host}N{name}" for name in range(EACH)), *limits, "--bind", net.at(2 + host)])
-        for host in range(HOSTS)
-    ]
+    words = [[*(f"H{host}N{name}" for name in range(EACH)), *limits, "--bind", net.at(2 + host)] for host in range(HOSTS)]
+    hosts = [Running([lab.nbt, "host", *its]) for its in words]
     time.sleep(5)
     server.kill()
     server = net.serve(longest=longest)

@@ -175,10 +175,7 @@ def rows(nbt, whole, longest):
     changed = [(place, good[:place] + bytes([other]) + good[place + 1 :]) for place, other in others]
     begun = time.monotonic()
     with ThreadPoolExecutor(AT_ONCE) as pool:
-        tasks = [
-            (place, pool.submit(Start, nbt, longest, number, octets))
-            for number, (place, octets) in enumerate([*cut, *changed])
-        ]
+        tasks = [(place, pool.submit(Start, nbt, longest, number, octets)) for number, (place, octets) in enumerate([*cut, *changed])]
         starts = [(place, task.result()) for place, task in tasks]
     last = Start(nbt, longest, len(starts), good)
     took = time.monotonic() - begun

@@ -1,10 +1,9 @@
 """The disk of a name server loses its power at random moments: what a real file system has then must have all that was granted.
 
 The server's folder is on an ext4 of its own, on a loop device over a file. Eight hosts ask for names, renew them and release them all the
-while. At a cut the server is stopped where it is, and that file is copied: it has what the file system wrote to its device, and nothing
-of what it only keeps in memory. The copy is mounted, which replays its journal, and a second server starts over it: it has to tell of each
-name what the replies before the cut said, but for those about which a request was under way. Then the first server goes on. With a library,
-under which no sync does anything, that has to fail.
+while. At a cut the server is stopped, and that file is copied: it has what the file system wrote to its device, and nothing else. The copy
+is mounted, and a second server starts over it: it has to tell of each name what the replies before the cut said, but for those about which
+a request was under way. Then the first server goes on. With a library, under which no sync does anything, that has to fail.
 """
 
 import os
