@@ -33,7 +33,19 @@
 #define NBT_ASSERT(holds, text) struct nbt_asserts_nothing
 #endif
 
+/*
+ * Where pointers have 32 bits, little end first, structs lie as where they have 64: a size in a struct has 8 octets there, of which the
+ * last 4 are 0, and stands at a multiple of 8, as an object's memory does.
+ */
+#if defined(__SIZEOF_POINTER__) && __SIZEOF_POINTER__ == 4
+#define NBT_ALIGNED __attribute__((aligned(8)))
+#define NBT_SIZE(name) NBT_ALIGNED size_t name; uint32_t name##_is_0
+NBT_ASSERT(sizeof(size_t) == 4, "nbt: sizes have 32 bits");
+#else
+#define NBT_ALIGNED
+#define NBT_SIZE(name) size_t name
 NBT_ASSERT(sizeof(void *) == 8 && sizeof(size_t) == 8, "nbt: pointers and sizes have 64 bits");
+#endif
 
 #ifdef __cplusplus
 extern "C" {
@@ -231,7 +243,7 @@ struct nbt_node {
 #endif
 #define NBT_NODE_ALIGN 8
 union nbt_node_memory {
-    uint64_t aligned;
+    NBT_ALIGNED uint64_t aligned;
     uint8_t octets[NBT_NODE_SIZE];
 };
 NBT_ASSERT(sizeof(union nbt_node_memory) == NBT_NODE_SIZE, "nbt: union nbt_node_memory");
@@ -281,7 +293,7 @@ struct nbt_event {
     uint8_t rcode;        /* of REFUSED, LOST, FREED and NOT_FOUND: the server's reason (RFC 1002 section 4.2.6) */
     bool cut;             /* of FOUND: the name has more entries than these */
     uint32_t seconds;     /* of GRANTED and RENEWED */
-    size_t size;          /* of FOUND: the octets of its entries, 6 each; of STATUS: of its names, 18 each */
+    NBT_SIZE(size);       /* of FOUND: the octets of its entries, 6 each; of STATUS: of its names, 18 each */
     struct nbt_name name; /* of all but NOTHING: the name that the datagram is about; zeros where a NOT_FOUND has none */
 };
 NBT_ASSERT(sizeof(struct nbt_event) == 256 && offsetof(struct nbt_event, name) == 16, "nbt: struct nbt_event");
@@ -350,7 +362,7 @@ struct nbt_joiner {
 #define NBT_JOINER_SIZE 6344
 #define NBT_JOINER_ALIGN 8
 union nbt_joiner_memory {
-    uint64_t aligned;
+    NBT_ALIGNED uint64_t aligned;
     uint8_t octets[NBT_JOINER_SIZE];
 };
 NBT_ASSERT(sizeof(union nbt_joiner_memory) == NBT_JOINER_SIZE, "nbt: union nbt_joiner_memory");
@@ -366,7 +378,7 @@ struct nbt_accept {
     struct nbt_addr to;          /* of REPLY: to whom it goes */
     struct nbt_name source;      /* of UP: SOURCE_NAME */
     struct nbt_name destination; /* of UP: DESTINATION_NAME, which the node holds */
-    size_t size;                 /* of UP: how many octets the data have */
+    NBT_SIZE(size);              /* of UP: how many octets the data have */
 };
 NBT_ASSERT(sizeof(struct nbt_accept) == 496 && offsetof(struct nbt_accept, source) == 12, "nbt: struct nbt_accept");
 
@@ -398,8 +410,8 @@ struct nbt_datagram {
     struct nbt_addr from;        /* SOURCE_IP and SOURCE_PORT */
     struct nbt_name source;      /* of a first fragment: SOURCE_NAME */
     struct nbt_name destination; /* of a first fragment: DESTINATION_NAME; of a query and its answers: the name asked for */
-    size_t place;                /* of a fragment: where its data begin in the packet */
-    size_t size;                 /* of a fragment: how many octets of data it has */
+    NBT_SIZE(place);             /* of a fragment: where its data begin in the packet */
+    NBT_SIZE(size);              /* of a fragment: how many octets of data it has */
 };
 NBT_ASSERT(sizeof(struct nbt_datagram) == 512 && offsetof(struct nbt_datagram, from) == 8, "nbt: struct nbt_datagram");
 
@@ -469,7 +481,7 @@ enum {
 /* A part of a session's stream. A field that its kind doesn't name stays as it was. */
 struct nbt_part {
     uint8_t kind;
-    size_t size;                      /* of MESSAGE: how many octets it has, up to 131,071; of DATA: how many of the piece are its */
+    NBT_SIZE(size);                   /* of MESSAGE: how many octets it has, up to 131,071; of DATA: how many of the piece are its */
     struct nbt_session_packet packet; /* of PACKET */
 };
 NBT_ASSERT(sizeof(struct nbt_part) == 504 && offsetof(struct nbt_part, packet) == 16, "nbt: struct nbt_part");
@@ -495,7 +507,7 @@ struct nbt_pieces {
 #define NBT_PIECES_SIZE 584
 #define NBT_PIECES_ALIGN 8
 union nbt_pieces_memory {
-    uint64_t aligned;
+    NBT_ALIGNED uint64_t aligned;
     uint8_t octets[NBT_PIECES_SIZE];
 };
 NBT_ASSERT(sizeof(union nbt_pieces_memory) == NBT_PIECES_SIZE, "nbt: union nbt_pieces_memory");
@@ -546,7 +558,7 @@ struct nbt_caller {
 #define NBT_CALLER_SIZE 512
 #define NBT_CALLER_ALIGN 8
 union nbt_caller_memory {
-    uint64_t aligned;
+    NBT_ALIGNED uint64_t aligned;
     uint8_t octets[NBT_CALLER_SIZE];
 };
 NBT_ASSERT(sizeof(union nbt_caller_memory) == NBT_CALLER_SIZE, "nbt: union nbt_caller_memory");
@@ -614,7 +626,7 @@ struct nbt_listener {
 #define NBT_LISTENER_SIZE 7304
 #define NBT_LISTENER_ALIGN 8
 union nbt_listener_memory {
-    uint64_t aligned;
+    NBT_ALIGNED uint64_t aligned;
     uint8_t octets[NBT_LISTENER_SIZE];
 };
 NBT_ASSERT(sizeof(union nbt_listener_memory) == NBT_LISTENER_SIZE, "nbt: union nbt_listener_memory");
@@ -666,7 +678,7 @@ struct nbt_server {
 #define NBT_SERVER_SIZE 208
 #define NBT_SERVER_ALIGN 8
 union nbt_server_memory {
-    uint64_t aligned;
+    NBT_ALIGNED uint64_t aligned;
     uint8_t octets[NBT_SERVER_SIZE];
 };
 NBT_ASSERT(sizeof(union nbt_server_memory) == NBT_SERVER_SIZE, "nbt: union nbt_server_memory");

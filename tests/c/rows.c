@@ -5,7 +5,9 @@
 #define _XOPEN_SOURCE 700
 #include "scene.h"
 
+#ifdef __linux__
 #include <ucontext.h>
+#endif
 
 #define LEASES 300
 #define PAINT 0xA5
@@ -55,6 +57,12 @@ static void play_results(void) {
 
 /* ---- the stack */
 
+/* How much of it a call may take on this processor, where gcc and clang for x86-64 make it take 100. */
+#ifndef STACK_PERCENT
+#define STACK_PERCENT 100
+#endif
+
+#ifdef __linux__
 static uint8_t stack[65536];
 static ucontext_t here, there;
 static bool measures;
@@ -82,11 +90,19 @@ static void make(const char *what, const struct call *call) {
         call->make();
         return;
     }
-    const size_t taken = taken_by(call->make) - taken_by(do_nothing);
-    if (taken > call->most)
-        printf("%s takes %zu of the stack, not %zu\n", call->word, taken, call->most);
-    row(what, taken <= call->most && *stack == PAINT);
+    const size_t taken = taken_by(call->make) - taken_by(do_nothing), most = call->most * STACK_PERCENT / 100;
+    if (taken > most)
+        printf("%s takes %zu of the stack, not %zu\n", call->word, taken, most);
+    row(what, taken <= most && *stack == PAINT);
 }
+#else
+static bool measures;
+
+static void make(const char *what, const struct call *call) {
+    (void)what;
+    call->make();
+}
+#endif
 
 /* ---- calls that are many */
 

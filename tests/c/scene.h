@@ -42,6 +42,9 @@ static uint64_t number_of(const char *word) {
     return strcmp(word, "max") == 0 ? UINT64_MAX : strtoull(word, 0, 0);
 }
 
+/* A size, or a place: of one that is greater than any the last bits. */
+static size_t count_of(const char *word) { return (size_t)number_of(word); }
+
 static uint8_t kind_of(enum words of, const char *word) {
     for (size_t i = 0; i < COUNT(WORDS); i++)
         if (WORDS[i].of == of && strcmp(WORDS[i].word, word) == 0)
@@ -108,10 +111,10 @@ static void take_octets(void) {
             const struct nbt_name name = name_of(word + 1);
             in.count += wire(&name, at);
         } else if (*word == '/') {
-            in.count = number_of(word + 1);
+            in.count = count_of(word + 1);
         } else if (word[2] == '*') {
-            in.count += number_of(word + 3);
-            memset(at, (int)strtoul(word, 0, 16), number_of(word + 3));
+            in.count += count_of(word + 3);
+            memset(at, (int)strtoul(word, 0, 16), count_of(word + 3));
         } else {
             for (unsigned octet; sscanf(word, "%2x", &octet) == 1; word += 2)
                 in.octets[in.count++] = (uint8_t)octet;
@@ -127,8 +130,8 @@ static void take_given(char letter) {
     case 'c': in.config = limits_of(next()); break;
     case 'n': in.name = name_of(next()); break;
     case 'm': in.other = name_of(next()); break;
-    case 'u': in.number = number_of(next()); break;
-    case 'r': in.room = number_of(next()); break;
+    case 'u': in.number = count_of(next()); break;
+    case 'r': in.room = count_of(next()); break;
     case 'k': in.kind = kind_of(OF_A_NAME, next()); break;
     case 'd': in.kind = kind_of(OF_A_DATAGRAM, next()); break;
     case 'h': in.kind = kind_of(OF_A_CONNECTION, next()); break;
