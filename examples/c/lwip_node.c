@@ -1,7 +1,7 @@
 /*
  * A node over lwIP's raw UDP calls and its timers, as a device has it: registers a name at a name server, holds it, answers
- * queries and status requests, and releases it. examples/c/node.c is the same over sockets. Its memory is static, and it calls no malloc; whether lwIP
- * does, MEM_LIBC_MALLOC and MEMP_MEM_MALLOC of its options say.
+ * queries and status requests, and releases it. examples/c/node.c is the same over sockets. Its memory is static, and it calls no malloc;
+ * whether lwIP does, MEM_LIBC_MALLOC and MEMP_MEM_MALLOC of its options say.
  *
  * The node is called where lwIP calls the program: in lwIP's own thread, or, without a system (NO_SYS), in the main loop. So no call
  * of the library meets another, and there is no lock. What follows it is for lwIP's port to Unix, over a TAP device that is there:
@@ -9,7 +9,8 @@
  *     cc -Iinclude $(pkg-config --cflags lwip) -o lwip_node examples/c/lwip_node.c libnbt.a $(pkg-config --libs lwip)
  *     PRECONFIGURED_TAPIF=tap0 ./lwip_node 'FILER#20' 10.0.0.5 255.255.255.0 10.0.0.1 [LONGEST]
  *
- * LONGEST is the server's longest lease in seconds, 3600 if it isn't given; `nbt nbns` has 300 then.
+ * LONGEST is the server's longest lease in seconds, 3600 if it isn't given; `nbt nbns` has 300 then. With LWIP_NODE_BOARD a board stands in
+ * the place of Unix: examples/c/mps2/node.c.
  */
 #define _POSIX_C_SOURCE 200809L
 #include <lwip/init.h>
@@ -17,17 +18,19 @@
 #include <lwip/netif.h>
 #include <lwip/pbuf.h>
 #include <lwip/sys.h>
-#include <lwip/tcpip.h>
 #include <lwip/timeouts.h>
 #include <lwip/udp.h>
 #include <nbt.h>
 #include <netif/ethernet.h>
-#include <netif/tapif.h>
-#include <signal.h>
 #include <stdio.h>
 #include <stdlib.h>
 #include <string.h>
+#ifndef LWIP_NODE_BOARD
+#include <lwip/tcpip.h>
+#include <netif/tapif.h>
+#include <signal.h>
 #include <time.h>
+#endif
 
 #define NAME_PORT 137
 
@@ -47,6 +50,8 @@ static int is_unanswered; /* its last request got no reply */
 static uint64_t ask_from; /* when a name that was refused may be requested again */
 static int stopped;       /* no name is requested any more */
 static void end(void);    /* called once all is over */
+
+static uint16_t first_id(void);
 
 /* lwIP's clock begins anew after 49 days, and the node's must not: a look comes within 6 days, half of the longest lease. */
 static uint64_t milliseconds(void) {
@@ -164,12 +169,6 @@ static void hear(void *unused, struct udp_pcb *unused_port, struct pbuf *packet,
     pbuf_free(packet);
 }
 
-/* The ids of this life of the node count from one that differs from start to start, so that a late reply to an earlier life is none
- * to this one. A device without a time of day takes a random number. */
-static uint16_t first_id(void) {
-    return (uint16_t)((uint64_t)time(0) * 1000);
-}
-
 /* Begins, once the network is up. After another address was given to it, or a sleep in which sys_now stood, a device begins anew. */
 static void begin(void) {
     port = udp_new();
@@ -196,7 +195,14 @@ static void release(void *unused) {
     look(unused);
 }
 
+#ifndef LWIP_NODE_BOARD
 /* ---- lwIP's port to Unix, with its thread or without a system */
+
+/* The ids of this life of the node count from one that differs from start to start, so that a late reply to an earlier life is none
+ * to this one. A device without a time of day takes a random number. */
+static uint16_t first_id(void) {
+    return (uint16_t)((uint64_t)time(0) * 1000);
+}
 
 static struct netif network;
 static ip4_addr_t mask;
@@ -283,3 +289,4 @@ int main(int count, char **words) {
     run();
     return 0;
 }
+#endif
