@@ -119,6 +119,16 @@ other_end es ds k addr new before behind l h member other =
     ∙ (ap (λ (b : Bool). has_end new l.addr before || (b || has_end new l.addr behind)) own
     ∙ other_bool (has_end new l.addr before) (has_end new l.addr behind) (sym (ends-append new l.addr before behind) ∙ no_end new l.addr (before ++ behind) (none_beside before behind l apart)))))
 
+own_bool : (x y t : Bool) → t ≡ true → (x || (t || y)) ≡ true
+own_bool true y t own = refl
+own_bool false y t own = ap (λ (b : Bool). b || y) own
+
+pub own_end : (es : Entries) (ds : List Due) (k : NameValue) (addr : ℕ) (before behind : List Lease) (l : Lease) → Agrees es ds → IsMember addr (members_of es k) before l behind → in_set ds (due l.end k l.addr) ≡ true
+own_end es ds k addr before behind l h member =
+    let own : ends_so l.end l.addr l ≡ true = rw (eq-eqb l.addr l.addr refl, eq-eqb l.end l.end refl) refl in
+    h.agree (due l.end k l.addr) ∙ (ap (has_end l.end l.addr) member.is ∙ (ends-append l.end l.addr before (l ∷ behind)
+    ∙ own_bool (has_end l.end l.addr before) (has_end l.end l.addr behind) (ends_so l.end l.addr l) own))
+
 -- ---- the members of each name
 
 name_turned : (a b : NameValue) → same_name a b ≡ same_name b a

@@ -71,7 +71,7 @@ dues_are (e ∷ es) d distinct =
 
 -- ---- no end stands twice
 
-none_passes : (test : Due → Bool) (ds : List Due) → list_any test ds ≡ false → AllByRecursion (λ d. test d ≡ false) ds
+pub none_passes : (test : Due → Bool) (ds : List Due) → list_any test ds ≡ false → AllByRecursion (λ d. test d ≡ false) ds
 none_passes test [] none = tt
 none_passes test (x ∷ xs) none = let parts = neither (test x) (list_any test xs) none in (parts.0, none_passes test xs parts.1)
   where
@@ -92,7 +92,7 @@ apart_front name (x ∷ xs) rows apart distinct behind =
     let ds : List Due = dues_of (rows_at name xs ++ rows) in
     IsDistinct-cons is_due d ds (none_passes (is_due d) ds (member_is ds d ∙ not_there name x xs rows apart.0 behind)) (apart_front name xs rows apart.1 distinct behind)
 
-dues_apart : (es : Entries) → IsDistinct same_name (keys_of es) → ((q : NameValue) → AreApart (members_of es q)) → IsDistinct is_due (dues_of (rows_of es))
+pub dues_apart : (es : Entries) → IsDistinct same_name (keys_of es) → ((q : NameValue) → AreApart (members_of es q)) → IsDistinct is_due (dues_of (rows_of es))
 unfolding IsDistinct
 dues_apart [] distinct apart = tt
 dues_apart (e ∷ es) distinct apart =

@@ -14,3 +14,4 @@ pub mod Placing
 pub mod Least
 pub mod Restored
 pub mod Owned
+pub mod Tallying

@@ -1,9 +1,11 @@
 //! The expiries of all leases, in order.
 
-ghost use Rattle.std.specs.Prelude.{◌≡◌, ◌+◌, ◌<◌, ◌≤◌, true, false, length, if◌then◌else◌, IfSome, IfNone, OnOk, OnErr, []};
+ghost use Rattle.std.specs.Prelude.{◌≡◌, ◌+◌, ◌<◌, ◌≤◌, true, false, length, if◌then◌else◌, IfSome, IfNone, OnOk, OnErr, [], IsTrue};
+ghost use Rattle.std.specs.Bool.{OnFalse};
 
 use crate::boxed_name::BoxedName;
 use crate::looks::Looks;
+use crate::tally::Tally;
 use nbt_name::Name;
 use std::alloc::{AllocError, Global};
 use std::collections::BTreeSet;
@@ -19,31 +21,35 @@ pub(crate) struct Due {
     pub addr: u32,
 }
 
-/// The expiries of all leases, each with its name and address. Only `take_due` shows one, and it counts that as a look.
+/// The expiries of all leases, each with its name and address, and how many leases each address has. Only `take_due` and
+/// `any_over` look at one, and they count that as a look.
 #[derive(Drop)]
 pub(crate) struct Ends {
     alloc: Global,
     dues: BTreeSet<Due>,
     /// The name that is looked for, in memory that was taken with the first expiry: so a removal takes none.
     sought: Option<BoxedName>,
+    tally: Tally,
 }
 
 impl Model for Ends {
     ghost use Rattle.std.specs.Prelude.{◌≡◌, List, []};
     ghost use Rattle.std.specs.Option.{ForNone};
     ghost use Rattle.nbt_lease.specs.declared.ends.Due.{Due as Seen};
+    ghost use Rattle.nbt_lease.specs.Inner.Tally.{Tallies};
 
     ghost Value = { List Seen };
 
     ghost view = { λ e. e.dues.keys };
 
-    ghost invariant = { λ e. ForNone e.sought (e.dues.keys ≡ []) };
+    ghost invariant = { λ e. ForNone e.sought (e.dues.keys ≡ []) × Tallies e.tally e.dues.keys };
 }
 
 impl Ends {
     ghost use Rattle.std.specs.List.{IsDistinct};
     ghost use Rattle.nbt_lease.specs.declared.ends.Due.{Due as Seen};
     ghost use Rattle.nbt_lease.specs.Inner.Index.{due, is_due, in_set};
+    ghost use Rattle.nbt_lease.specs.Inner.Tally.{dues_of_client};
 
     /// No expiries. Takes no memory.
     pub fn new(alloc: Global) -> Ends
@@ -53,6 +59,7 @@ impl Ends {
             alloc,
             dues: BTreeSet::new(alloc),
             sought: None,
+            tally: Tally::new(alloc),
         }
     }
 
@@ -61,6 +68,13 @@ impl Ends {
         ensures { result ≡ length self.now }
     {
         self.dues.len()
+    }
+
+    /// How many leases the address has. One look-up; takes no memory.
+    pub fn count_of(&self, addr: u32) -> usize
+        ensures { result ≡ dues_of_client addr self.now }
+    {
+        self.tally.count_of(addr) as usize
     }
 
     /// Adds the expiry of a lease that isn't there. If out of memory, all is as before.
@@ -77,13 +91,19 @@ impl Ends {
             None => BoxedName::new(self.alloc, name)?,
         };
         self.sought = Some(sought);
+        self.tally.add(addr)?;
         let due = Due {
             end,
             name: key,
             addr,
         };
-        self.dues.insert(due)?;
-        Ok(())
+        match self.dues.insert(due) {
+            Ok(_) => Ok(()),
+            Err(refused) => {
+                self.tally.remove(addr);
+                Err(refused.into())
+            }
+        }
     }
 
     /// Removes the expiry of a lease that is there. Takes no memory.
@@ -104,6 +124,44 @@ impl Ends {
         };
         self.dues.remove(&due);
         self.sought = Some(due.name);
+        self.tally.remove(addr);
+    }
+
+    /// Moves the expiry of a lease that is there from `before` to `end`. The set grows by the new one before the old one goes. If
+    /// out of memory, all is as before.
+    pub fn postpone(
+        &mut self,
+        before: u64,
+        end: u64,
+        name: &Name,
+        addr: u32,
+    ) -> Result<(), AllocError>
+        requires there { in_set self.old (due before name.now addr) ≡ true }
+        requires absent { in_set self.old (due end name.now addr) ≡ false }
+        ensures found { OnOk result ((d : Seen) → in_set self.new d ≡ (if is_due (due before name.now addr) d then false else (if is_due (due end name.now addr) d then true else in_set self.old d))) }
+        ensures count { OnOk result (length self.new ≡ length self.old) }
+        ensures distinct { OnOk result (IsDistinct is_due self.new) }
+        ensures unchanged { OnErr result (self.new ≡ self.old) }
+    {
+        let key = BoxedName::new(self.alloc, name)?;
+        let due = Due {
+            end,
+            name: key,
+            addr,
+        };
+        self.dues.insert(due)?;
+        let Some(mut sought) = self.sought.take() else {
+            return Ok(());
+        };
+        sought.set(name);
+        let due = Due {
+            end: before,
+            name: sought,
+            addr,
+        };
+        self.dues.remove(&due);
+        self.sought = Some(due.name);
+        Ok(())
     }
 
     /// Looks at the first expiry, and removes it if it is over at `now`. Takes no memory.
@@ -119,8 +177,24 @@ impl Ends {
     {
         looks.add_one();
         match self.dues.first() {
-            Some(due) if due.end <= now => self.dues.pop_first(),
+            Some(due) if due.end <= now => {
+                self.tally.remove(due.addr);
+                self.dues.pop_first()
+            }
             _ => None,
+        }
+    }
+
+    /// Looks at the first expiry: whether it is over at `now`. Takes no memory.
+    pub fn any_over<L: Ledger>(&self, now: u64, looks: &mut Looks<L>) -> bool
+        ensures looks { looks.new ≡ looks.old + 1 }
+        ensures over { IsTrue result → (d : Seen) × (in_set self.now d ≡ true) × (d.end ≤ now) }
+        ensures live { OnFalse result ((d : Seen) → in_set self.now d ≡ true → now < d.end) }
+    {
+        looks.add_one();
+        match self.dues.first() {
+            Some(due) => due.end <= now,
+            None => false,
         }
     }
 }

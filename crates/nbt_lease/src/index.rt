@@ -1,12 +1,13 @@
 //! The leases by name, and their expiries in order.
 
-ghost use Rattle.std.specs.Prelude.{◌≡◌, ◌+◌, ◌<◌, ◌≤◌, ◌↔◌, IsTrue, [], ◌∷◌, ◌++◌, length, map, filter, IfOk, IfSome, IfNone, OnOk, OnErr, if◌then◌else◌};
+ghost use Rattle.std.specs.Prelude.{◌≡◌, ◌+◌, ◌<◌, ◌≤◌, ◌↔◌, IsTrue, true, [], ◌∷◌, ◌++◌, length, map, filter, IfOk, IfSome, IfNone, OnOk, OnErr, if◌then◌else◌};
 ghost use Rattle.std.specs.Bool.{OnFalse};
 ghost use Rattle.std.specs.List.{IsDistinct};
 ghost use Rattle.std.specs.Map.{keys_of};
 ghost use Rattle.nbt_name.specs.Wire.{NameValue};
 ghost use Rattle.nbt_lease.specs.Lease.{count_of};
-ghost use Rattle.nbt_lease.specs.Inner.Index.{rows_of};
+ghost use Rattle.nbt_lease.specs.declared.ends.Due.{Due};
+ghost use Rattle.nbt_lease.specs.Inner.Index.{rows_of, in_set};
 
 use crate::both::{begin_in, take_out};
 use crate::ends::Ends;
@@ -17,8 +18,8 @@ use crate::named::Named;
 use indexmap::IndexMap;
 use nbt_name::Name;
 use std::alloc::{AllocError, Global};
-use std::marker::Model;
-use std::sync::ledger::Ledger;
+use std::marker::{Brand, Model};
+use std::sync::ledger::{Blank, Ledger};
 
 /// The leases by name, and their expiries in order. Each name has a member at least; its members are of different
 /// addresses; and the set holds the expiry, name and address of each member, and no other.
@@ -82,13 +83,16 @@ impl Index {
         self.ends.count()
     }
 
-    /// Whether at least `count` members of this address live at `now`, over all names. It reads none if there are fewer leases.
-    /// Takes no memory.
+    /// Whether at least `count` members of this address live at `now`, over all names. One look-up if the address has fewer
+    /// leases, or none of all leases is over; else it reads name after name. Takes no memory.
     pub fn has_at_least(&self, addr: u32, now: u64, count: usize) -> bool
         ensures { IsTrue result ↔ (count ≤ count_of now addr (rows_of self.now)) }
     {
-        if self.count() < count {
+        if self.ends.count_of(addr) < count {
             return false;
+        }
+        if !any_over::<Brand>(&self.ends, now, Blank::new(1)) {
+            return true;
         }
         reaches(&self.members, addr, now, count)
     }
@@ -135,8 +139,7 @@ impl Index {
         if end <= before {
             return Ok(Some(before));
         }
-        self.ends.insert(end, name, addr)?;
-        self.ends.remove(before, name, addr);
+        self.ends.postpone(before, end, name, addr)?;
         named.set_end(place, end);
         Ok(Some(end))
     }
@@ -180,6 +183,36 @@ impl Index {
     {
         'dues: while self.pop_due(now, looks) {}
     }
+
+    /// Removes leases that are over at `now`, those that expired first, `most` at the most. Takes no memory.
+    pub fn drop_some<L: Ledger>(&mut self, now: u64, most: u32, looks: &mut Looks<L>)
+        requires names { IsDistinct same_name (keys_of self.old) }
+        ensures leases { (q : NameValue) → filter (is_live now) (members_of self.new q) ≡ filter (is_live now) (members_of self.old q) }
+        ensures looks { looks.new ≤ looks.old + most }
+        ensures fewer { length (rows_of self.new) ≤ length (rows_of self.old) }
+        ensures bound { length (rows_of self.old) ≤ length (rows_of self.new) + most }
+        ensures over { length (rows_of self.old) < length (rows_of self.new) + most → (q : NameValue) → AreLive now (members_of self.new q) }
+        ensures names { IsDistinct same_name (keys_of self.new) }
+    {
+        let mut left = most;
+        'dues: while 0 < left {
+            if !self.pop_due(now, looks) {
+                return;
+            }
+            left -= 1;
+        }
+    }
+}
+
+/// Whether any lease is over at `now`, without counting the look.
+fn any_over<L: Ledger>(ends: &Ends, now: u64, blank: Blank) -> bool
+    requires name { blank.name ≡ L.name }
+    requires parts { blank.parts ≡ L.parts }
+    requires part_count { 0 < blank.parts }
+    ensures live { OnFalse result ((d : Due) → in_set ends.now d ≡ true → now < d.end) }
+{
+    let mut looks = Looks::<L>::new(blank);
+    ends.any_over(now, &mut looks)
 }
 
 /// Whether at least `count` members of this address live at `now`. It reads name after name until it has found so many.

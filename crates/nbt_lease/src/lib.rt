@@ -19,6 +19,7 @@ mod named;
 mod restoring;
 mod standing;
 mod table;
+mod tally;
 
 pub use config::{Config, LIFE_MOST, LONGEST_MOST, ROWS_MOST};
 pub use fault::{ConfigFault, GrantFault, RestoreFault};

@@ -8,7 +8,7 @@ ghost use Rattle.nbt_lease.specs.Lease.{TableValue, is_live, leases_at, HasNone}
 ghost use Rattle.nbt_lease.specs.Config.{granted};
 ghost use Rattle.nbt_lease.specs.Rules.{Asked, begun, Releases};
 ghost use Rattle.nbt_lease.specs.Inner.Placing.{HoldsLive, MayBegin, Places};
-ghost use Rattle.nbt_lease.specs.Inner.Index.{members_of, rows_of};
+ghost use Rattle.nbt_lease.specs.Inner.Index.{members_of, rows_of, AreLive};
 
 use crate::config::Config;
 use crate::fault::{GrantFault, RestoreFault};
@@ -185,8 +185,8 @@ impl Table {
         self.index.live(name, now.get())
     }
 
-    /// Whether the address has at least `count` live leases at `now`, over all names. Takes no memory. It reads name after name
-    /// until it has found so many, and none if the table has fewer rows.
+    /// Whether the address has at least `count` live leases at `now`, over all names. Takes no memory. One look-up where the
+    /// address has fewer rows, or no row of the table is over at `now`; else it reads name after name until it has found so many.
     pub fn has_at_least(&self, now: Moment, addr: u32, count: u32) -> bool
         ensures { IsTrue result ↔ (count ≤ count_of now addr self.now.rows) }
     {
@@ -239,6 +239,21 @@ impl Table {
         self.index.drop_expired(now.get(), looks);
     }
 
+    /// Removes leases that are over at `now`, those that expired first, and 64 at the most; no others. Takes no memory. `now` is
+    /// at least `last()`, and is `last()` afterwards.
+    pub fn sweep_some(&mut self, now: Moment)
+        requires { self.old.last ≤ now }
+        ensures leases { leases_at now self.new.rows ≡ leases_at now self.old.rows }
+        ensures bound { length self.old.rows ≤ length self.new.rows + 64 }
+        ensures over { length self.old.rows < length self.new.rows + 64 → live_count now self.new.rows ≡ length self.new.rows }
+        ensures config { self.new.config ≡ self.old.config }
+        ensures last { self.new.last ≡ now }
+        ensures sound { IsSound self.new.config now (leases_at now self.new.rows) }
+    {
+        self.last = now;
+        drop_some::<Brand>(&mut self.index, now.get(), 64, Blank::new(1));
+    }
+
     /// Sweeps without counting the looks.
     fn sweep_uncounted<L: Ledger>(&mut self, now: Moment, blank: Blank)
         requires time { self.old.last ≤ now }
@@ -267,6 +282,22 @@ fn drop_expired<L: Ledger>(index: &mut Index, now: u64, blank: Blank)
 {
     let mut looks = Looks::<L>::new(blank);
     index.drop_expired(now, &mut looks);
+}
+
+/// Removes so many leases that are over, at the most, without counting the looks.
+fn drop_some<L: Ledger>(index: &mut Index, now: u64, most: u32, blank: Blank)
+    requires name { blank.name ≡ L.name }
+    requires parts { blank.parts ≡ L.parts }
+    requires part_count { 0 < blank.parts }
+    requires names { IsDistinct same_name (keys_of index.old) }
+    ensures leases { (q : NameValue) → filter (is_live now) (members_of index.new q) ≡ filter (is_live now) (members_of index.old q) }
+    ensures fewer { length (rows_of index.new) ≤ length (rows_of index.old) }
+    ensures bound { length (rows_of index.old) ≤ length (rows_of index.new) + most }
+    ensures over { length (rows_of index.old) < length (rows_of index.new) + most → (q : NameValue) → AreLive now (members_of index.new q) }
+    ensures names { IsDistinct same_name (keys_of index.new) }
+{
+    let mut looks = Looks::<L>::new(blank);
+    index.drop_some(now, most, &mut looks);
 }
 
 /// Renews the address's lease, or begins one, for this many seconds. All leases live.

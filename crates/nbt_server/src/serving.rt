@@ -286,7 +286,7 @@ fn respond_release(id: u16, rcode: u8, claim: &Claim, out: &mut ArrayVec<u8, 576
 
 /// Leaves in `out` the response to a query, and returns which it is: the first leases of the name, as many as fit, with the
 /// seconds until the first of all its leases expires; or that it has no lease (RFC 1002 sections 4.2.13 and 4.2.14).
-/// Expired leases are removed first, so that the first expiry is looked up.
+/// Expired leases are removed first, 64 at the most. Where the name has none then, the first expiry is looked up.
 fn find(
     table: &mut Table,
     now: Moment,
@@ -301,7 +301,7 @@ fn find(
     ensures config { table.new.config ≡ table.old.config }
     ensures last { table.new.last ≤ now }
 {
-    table.sweep(now);
+    table.sweep_some(now);
     let name = name.to_name();
     let mut entries = ArrayVec::new();
     let listed = list(table, now, &name, &mut entries);

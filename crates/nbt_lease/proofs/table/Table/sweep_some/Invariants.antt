@@ -1,0 +1,4 @@
+use Rattle.nbt_lease.proofs.table.Table.sweep_some.Given as goal
+
+abbrev pub ghosts-drop_some : goal.ghosts-drop_some
+ghosts-drop_some a = record { name = a.blank.name; parts = a.blank.parts }
