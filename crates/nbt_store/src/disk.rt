@@ -19,7 +19,7 @@ pub trait Disk {
     fn create(&mut self, octets: &[u8]) -> io::Result<()>
         ensures { does self.old (creating octets.now result) self.new };
 
-    /// Writes these octets at the end of the open file, in one write.
+    /// Puts these octets at the end of the open file. A crash before the next sync may leave any part of them, or none.
     fn append(&mut self, octets: &[u8]) -> io::Result<()>
         ensures { does self.old (adding octets.now result) self.new };
 

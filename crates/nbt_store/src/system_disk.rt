@@ -61,7 +61,8 @@ impl Mark {
 }
 
 /// A folder of the system: its file `leases`, the new file `leases.new` beside it, and the file `lock`, which it holds locked for
-/// as long as it lasts. Whoever has this value has the lock.
+/// as long as it lasts. Whoever has this value has the lock. What is appended stays in memory until the next sync, which writes all
+/// of it at once.
 #[derive(Drop)]
 pub struct SystemDisk<'a, R: Files> {
     machine: &'a R,
@@ -73,6 +74,8 @@ pub struct SystemDisk<'a, R: Files> {
     lock: Mark,
     _locked: File,
     open: Option<R::File>,
+    /// What was appended to the open file since the last sync.
+    unwritten: Vec<u8>,
     syncs: Syncs,
 }
 
@@ -100,6 +103,7 @@ impl<'a, R: Files<File = File>> SystemDisk<'a, R> {
             lock,
             _locked: locked,
             open: None,
+            unwritten: Vec::new(alloc),
             syncs: Syncs::NONE,
         };
         disk.check_lock()?;
@@ -233,16 +237,22 @@ impl<'a, R: Files + time::Clock> Disk for SystemDisk<'a, R> {
         let mut file = File::create(self.machine, self.new_path.as_str())?;
         file.write_all(octets)?;
         self.open = Some(file);
+        self.unwritten.clear();
         Ok(())
     }
 
     fn append(&mut self, octets: &[u8]) -> io::Result<()> {
-        opened(&mut self.open)?.write_all(octets)
+        opened(&mut self.open)?;
+        self.unwritten.extend_from_slice(octets)?;
+        Ok(())
     }
 
     fn sync(&mut self) -> io::Result<()> {
         let before = self.machine.monotonic();
-        opened(&mut self.open)?.sync_data()?;
+        let file = opened(&mut self.open)?;
+        file.write_all(self.unwritten.as_slice())?;
+        self.unwritten.clear();
+        file.sync_data()?;
         self.syncs.add(before, self.machine.monotonic());
         Ok(())
     }

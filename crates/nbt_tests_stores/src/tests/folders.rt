@@ -93,6 +93,7 @@ fn expect_long<R: Abort + AllocGlobal + Files + time::Clock>(
             })
             .expect(rt, "memory");
     }
+    store.sync().expect(rt, "sync");
     expect(rt, store.is_long());
     expect(rt, store.error().is_none());
     symlink(rt, "/dev/full", path_in(rt, folder, "leases.new").as_str()).expect(rt, "a link");
@@ -119,9 +120,14 @@ fn expect_changes<R: Abort + AllocGlobal + Files<File = File> + time::Clock>(
     store
         .append(&Change::Released { name, addr, at: 5 })
         .expect(rt, "memory");
+    expect_eq(rt, &kept(rt, folder), &1);
     store.sync().expect(rt, "sync");
     expect_eq(rt, &kept(rt, folder), &0);
+    store
+        .append(&Change::Reached { at: 6 })
+        .expect(rt, "memory");
     store.renew(&header(rt), rows).expect(rt, "renew");
+    store.sync().expect(rt, "sync");
     expect_eq(rt, &kept(rt, folder), &1);
     expect(rt, text_in(rt, folder, "leases.new").is_none());
 }
@@ -593,6 +599,43 @@ fn a_folder_counts_its_syncs(rt: HostRuntime) {
     let folder = path_for(&rt, "syncs").expect(&rt, "a path");
     fs::create_dir(&rt, folder.as_str()).expect(&rt, "a folder");
     expect(&rt, counts_syncs(&rt, folder.as_str()));
+    fs::remove_dir_all(&rt, folder.as_str()).expect(&rt, "removed");
+}
+
+/// How many calls of the system that write this process has made.
+fn writes<R: Abort + AllocGlobal + Files>(rt: &R) -> usize {
+    let counted = text_in(rt, "/proc/self", "io").expect(rt, "its counts");
+    counted
+        .as_str()
+        .lines()
+        .find_map(|line| line.strip_prefix("syscw: "))
+        .and_then(|count| count.parse().ok())
+        .expect(rt, "a number")
+}
+
+/// How many calls that write a store makes for a batch of changes and their sync.
+fn writes_of_a_batch<R: Abort + AllocGlobal + Files<File = File> + time::Clock>(
+    rt: &R,
+    folder: &str,
+) -> usize {
+    let mut store = open_new(rt, folder, &[row(rt)]);
+    let before = writes(rt);
+    for at in 6..70 {
+        store.append(&Change::Reached { at }).expect(rt, "memory");
+    }
+    expect_eq(rt, &writes(rt), &before);
+    store.sync().expect(rt, "sync");
+    writes(rt).saturating_sub(before)
+}
+
+/// The lines of a batch are written at once.
+#[test]
+fn a_batch_is_one_write(rt: HostRuntime) {
+    let folder = path_for(&rt, "batch").expect(&rt, "a path");
+    fs::create_dir(&rt, folder.as_str()).expect(&rt, "a folder");
+    expect_eq(&rt, &writes_of_a_batch(&rt, folder.as_str()), &1);
+    let text = text_in(&rt, folder.as_str(), "leases").expect(&rt, "a file");
+    expect_eq(&rt, &text.as_str().lines().count(), &67);
     fs::remove_dir_all(&rt, folder.as_str()).expect(&rt, "removed");
 }
 

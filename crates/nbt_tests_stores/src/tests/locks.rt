@@ -336,7 +336,7 @@ fn expect_loss<'a, R: Abort + AllocGlobal + Files<File = File> + time::Clock>(
     let before = text_in(rt, folder, "leases").expect(rt, "a file");
     lose(rt, folder, away, loss.0);
     let about = (loss.0, asks);
-    let came = ask(rt, &mut store, asks);
+    let came = ask(rt, &mut store, asks).and_then(|_| store.sync());
     let refused = loss.1.is_some() && looks(asks);
     expect_eq_in(rt, &about, &came.is_err(), &refused);
     if let (Some(why), true) = (loss.1, refused) {
