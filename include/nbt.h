@@ -623,7 +623,7 @@ struct nbt_listener {
 };
 
 /* A listener's memory: what the two functions return, and a type of that size and alignment, so that it can be static. */
-#define NBT_LISTENER_SIZE 7304
+#define NBT_LISTENER_SIZE 7416
 #define NBT_LISTENER_ALIGN 8
 union nbt_listener_memory {
     NBT_ALIGNED uint64_t aligned;
@@ -675,7 +675,7 @@ struct nbt_server {
 };
 
 /* A server's memory: what the two functions return, and a type of that size and alignment, so that it can be static. */
-#define NBT_SERVER_SIZE 208
+#define NBT_SERVER_SIZE 320
 #define NBT_SERVER_ALIGN 8
 union nbt_server_memory {
     NBT_ALIGNED uint64_t aligned;

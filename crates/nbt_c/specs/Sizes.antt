@@ -18,11 +18,11 @@ abbrev pub caller_size : ℕ
 caller_size = 512
 
 abbrev pub listener_size : ℕ
-listener_size = 7304
+listener_size = 7416
 
 -- beside the memory that a server asks malloc for
 abbrev pub server_size : ℕ
-server_size = 208
+server_size = 320
 
 -- of each of them
 abbrev pub object_align : ℕ

@@ -6,5 +6,6 @@ pub mod Gathering
 pub mod InParts
 pub mod Lines
 pub mod Packets
+pub mod Places
 pub mod Spelling
 pub mod Streams

@@ -1,5 +1,5 @@
 -- A plain name's octets are its wire form, and a name's fault stands within the octets.
-use Rattle.std.proofs.Common.{◌≡◌, ℕ, zero, suc, ◌+◌, ◌-◌, ◌≤◌, List, [], ◌∷◌, ◌++◌, length, take, drop, Option, Some, None, refl, sym, ap, ◌∙◌, arith, append_assoc, add-one}
+use Rattle.std.proofs.Common.{◌≡◌, ℕ, suc, ◌+◌, ◌-◌, ◌≤◌, List, [], ◌∷◌, ◌++◌, length, take, drop, Option, Some, None, refl, sym, ap, ◌∙◌, arith, append_assoc, add-one}
 use Rattle.std.specs.Prelude.{slice_get, slice_range, unwrap_or}
 use Rattle.std.proofs.lemmas.List.{take-append-drop, drop-drop, drop_all, append-nil}
 use Rattle.std.proofs.Math.Seq.{drop-cons}

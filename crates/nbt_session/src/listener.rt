@@ -8,7 +8,7 @@ ghost use Rattle.nbt_node.specs.Node.{holds as node_holds};
 ghost use Rattle.nbt_session.specs.declared.listener.Entry.{Entry};
 ghost use Rattle.nbt_session.specs.declared.listener.Slot.TheVariants.{Free, Fresh, Open};
 ghost use Rattle.nbt_session.specs.Event.{event_of, packet};
-ghost use Rattle.nbt_session.specs.Inner.Listening.{Tells};
+ghost use Rattle.nbt_session.specs.Inner.Listening.{Tells, AreEntries, is_for};
 ghost use Rattle.nbt_session.specs.Listener as spec;
 ghost use Rattle.nbt_session.specs.Listener.{Without, TakesCall, FirstThatTakes, CallMoves, SlotMoves, ListenerMoves, answer_of, send_and_close};
 ghost use Rattle.nbt_session.specs.Packet.{negative, packet_of};
@@ -42,17 +42,6 @@ pub struct Entry {
     pub calling: Option<Name>,
     /// The endpoint to which the call is retargeted.
     pub retarget: Option<Addr>,
-}
-
-impl Default for Entry {
-    /// An entry for the name `*`, which no node holds: it accepts no call.
-    fn default() -> Entry {
-        Entry {
-            called: Name::any(&[]).unwrap(),
-            calling: None,
-            retarget: None,
-        }
-    }
 }
 
 /// The listener has as many entries as it may have.
@@ -89,17 +78,21 @@ pub enum ListenerAnswer {
 /// A listener of up to `L` entries, over `M` connections. Its methods allocate no memory.
 #[derive(Debug, Drop)]
 pub struct Listener<const L: usize, const M: usize> {
-    entries: ArrayVec<Entry, L>,
+    /// The entries, in order. A place without one is none: to begin a listener takes no room on the stack for names.
+    entries: ArrayVec<Option<Entry>, L>,
     slots: [Slot; M],
     most: usize,
 }
 
 impl<const L: usize, const M: usize> Model for Listener<L, M> {
     ghost use Rattle.nbt_session.specs.Listener.{ListenerValue};
+    ghost use Rattle.nbt_session.specs.Inner.Listening.{AreEntries, entries_in};
 
     ghost Value = { ListenerValue };
 
-    ghost view = { λ l. record { entries = l.entries.items; slots = l.slots; most = l.most } };
+    ghost view = { λ l. record { entries = entries_in l.entries.items; slots = l.slots; most = l.most } };
+
+    ghost invariant = { λ l. AreEntries l.entries.items (entries_in l.entries.items) };
 }
 
 impl<const L: usize, const M: usize> Listener<L, M> {
@@ -126,7 +119,7 @@ impl<const L: usize, const M: usize> Listener<L, M> {
         if self.entries.is_full() {
             return Err(Full);
         }
-        self.entries.push(entry);
+        self.entries.push(Some(entry));
         Ok(())
     }
 
@@ -214,14 +207,14 @@ fn on_free(event: Event) -> (Slot, ListenerAnswer)
 
 /// The connection is established, and no request came.
 fn on_fresh(
-    entries: &[Entry],
+    entries: &[Option<Entry>],
     most: usize,
     opened: usize,
     held: bool,
     event: Event,
 ) -> (Slot, ListenerAnswer)
-    ensures { (holds : NameValue → Option Kind) → Tells holds (event_of event) held
-        → SlotMoves holds entries.now most opened Fresh (event_of event) result.0 (answer_of result.1) }
+    ensures { (holds : NameValue → Option Kind) (listed : List Entry) → Tells holds (event_of event) held → AreEntries entries.now listed
+        → SlotMoves holds listed most opened Fresh (event_of event) result.0 (answer_of result.1) }
 {
     match event {
         Event::Connected => (Slot::Fresh, ListenerAnswer::Nothing),
@@ -232,14 +225,14 @@ fn on_fresh(
 
 /// The first packet came, or one after keep alives.
 fn on_first(
-    entries: &[Entry],
+    entries: &[Option<Entry>],
     most: usize,
     opened: usize,
     held: bool,
     first: &Packet,
 ) -> (Slot, ListenerAnswer)
-    ensures { (holds : NameValue → Option Kind) → Tells holds (packet (packet_of first.now)) held
-        → SlotMoves holds entries.now most opened Fresh (packet (packet_of first.now)) result.0 (answer_of result.1) }
+    ensures { (holds : NameValue → Option Kind) (listed : List Entry) → Tells holds (packet (packet_of first.now)) held → AreEntries entries.now listed
+        → SlotMoves holds listed most opened Fresh (packet (packet_of first.now)) result.0 (answer_of result.1) }
 {
     match first {
         Packet::Request { called, calling } => {
@@ -269,15 +262,15 @@ fn on_open(event: Event) -> (Slot, ListenerAnswer)
 
 /// A call.
 fn on_call(
-    entries: &[Entry],
+    entries: &[Option<Entry>],
     most: usize,
     opened: usize,
     held: bool,
     called: &Name,
     calling: &Name,
 ) -> (Slot, ListenerAnswer)
-    ensures { (holds : NameValue → Option Kind) → held ≡ is_some (holds called.now)
-        → CallMoves holds entries.now most opened called.now calling.now result.0 (answer_of result.1) }
+    ensures { (holds : NameValue → Option Kind) (listed : List Entry) → held ≡ is_some (holds called.now) → AreEntries entries.now listed
+        → CallMoves holds listed most opened called.now calling.now result.0 (answer_of result.1) }
 {
     if !held {
         return refused(NOT_PRESENT);
@@ -311,29 +304,45 @@ fn refused(code: u8) -> (Slot, ListenerAnswer)
 }
 
 /// The first entry that accepts the call.
-fn first_that_takes<'a>(entries: &'a [Entry], called: &Name, calling: &Name) -> Option<&'a Entry>
-    ensures found { IfSome result (λ entry. FirstThatTakes entries.now called.now calling.now entry.now) }
-    ensures none { IfNone result (All (λ e. ¬ TakesCall e called.now calling.now) entries.now) }
+fn first_that_takes<'a>(
+    entries: &'a [Option<Entry>],
+    called: &Name,
+    calling: &Name,
+) -> Option<&'a Entry>
+    ensures found { (listed : List Entry) → AreEntries entries.now listed → IfSome result (λ entry. FirstThatTakes listed called.now calling.now entry.now) }
+    ensures none { (listed : List Entry) → AreEntries entries.now listed → IfNone result (All (λ e. ¬ TakesCall e called.now calling.now) listed) }
 {
-    for entry in entries {
-        if takes(entry, called, calling) {
-            return Some(entry);
+    for place in entries {
+        if let Some(entry) = place {
+            if takes(entry, called, calling) {
+                return Some(entry);
+            }
         }
     }
     None
 }
 
 /// Whether an entry has the called name.
-fn listens_on(entries: &[Entry], called: &Name) -> bool
-    ensures called_entry { OnTrue result (Any (λ e. e.called ≡ called.now) entries.now) }
-    ensures none { OnFalse result (All (λ e. e.called ≢ called.now) entries.now) }
+fn listens_on(entries: &[Option<Entry>], called: &Name) -> bool
+    ensures called_entry { (listed : List Entry) → AreEntries entries.now listed → OnTrue result (Any (λ e. e.called ≡ called.now) listed) }
+    ensures none { (listed : List Entry) → AreEntries entries.now listed → OnFalse result (All (λ e. e.called ≢ called.now) listed) }
 {
-    for one in entries {
-        if is_same(&one.called, called) {
+    for place in entries {
+        if is_for(place, called) {
             return true;
         }
     }
     false
+}
+
+/// Whether an entry stands there, and has the called name.
+fn is_for(place: &Option<Entry>, called: &Name) -> bool
+    ensures { result ≡ is_for place.now called.now }
+{
+    match place {
+        Some(entry) => is_same(&entry.called, called),
+        None => false,
+    }
 }
 
 /// Whether the entry accepts the call.
@@ -350,10 +359,10 @@ fn takes(entry: &Entry, called: &Name, calling: &Name) -> bool
 }
 
 /// Removes all entries of the name.
-fn without<const L: usize>(entries: &mut ArrayVec<Entry, L>, called: &Name)
-    ensures { Without called.now entries.old.items entries.new.items }
+fn without<const L: usize>(entries: &mut ArrayVec<Option<Entry>, L>, called: &Name)
+    ensures { (old : List Entry) → AreEntries entries.old.items old → (new : List Entry) × Without called.now old new × AreEntries entries.new.items new }
 {
-    entries.retain(|entry| !is_same(&entry.called, called));
+    entries.retain(|place| !is_for(place, called));
 }
 
 fn is_same(a: &Name, b: &Name) -> bool

@@ -3,7 +3,7 @@ use Rattle.nbt_session.specs.Listener.{stands_already, is_lost}
 use Rattle.nbt_session.proofs.listener.on_fresh.Goals as goal
 
 pub returns-in-Connected : goal.returns-in-Connected
-returns-in-Connected c = λ holds tells. rw c.in-Connected.is stands_already
+returns-in-Connected c = λ holds listed tells are. rw c.in-Connected.is stands_already
 
 pub returns-in-Lost : goal.returns-in-Lost
-returns-in-Lost c = λ holds tells. rw c.in-Lost.is (is_lost Fresh)
+returns-in-Lost c = λ holds listed tells are. rw c.in-Lost.is (is_lost Fresh)
