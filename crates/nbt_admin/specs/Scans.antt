@@ -7,7 +7,8 @@ use Rattle.nbt_scan.specs.declared.form.Form.{Form}
 use Rattle.nbt_scan.specs.declared.form.Form.TheVariants.{Plain, Long, Hosts, Json}
 use Rattle.nbt_scan.specs.declared.span.Span.{Span}
 use Rattle.nbt_scan.specs.Spans.{AreFew, AreOf}
-use Rattle.nbt_scan.specs.Words.{SpellsSpan, SpellsWithin}
+use Rattle.nbt_text.specs.Number.{SpellsWithin}
+use Rattle.nbt_scan.specs.Words.{SpellsSpan}
 use Rattle.nbt_args.specs.declared.scan.ScanTexts.{ScanTexts}
 use Rattle.nbt_admin.specs.Failures.{Reports, out_of_memory}
 use Rattle.nbt_admin.specs.Reading.{Reads, Where, Then, Makes, Each}

@@ -11,7 +11,8 @@ use crate::spans::spans_of;
 use crate::timing::parse_between;
 use nbt_args::ScanTexts;
 use nbt_name::Addr;
-use nbt_scan::{Form, Layout, Plan, addresses_of, number_within};
+use nbt_scan::{Form, Layout, Plan, addresses_of};
+use nbt_text::number_within;
 use std::alloc::Global;
 
 /// The most requests in a second (our profile).

@@ -4,5 +4,3 @@
 pub mod Beginning
 -- the turns of a node
 pub mod Turning
--- the addresses of a name
-pub mod Addresses

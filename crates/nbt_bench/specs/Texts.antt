@@ -1,24 +1,25 @@
 -- The texts of what came of a step, each after a space (our profile).
-use Rattle.std.specs.Prelude.{ℕ, List, [], ◌∷◌, ◌++◌, slice_index, codes}
+use Rattle.std.specs.Prelude.{ℕ, ◌/◌, List, [], ◌∷◌, ◌++◌, length, codes}
 use Rattle.std.specs.Fmt.{decimal}
+use Rattle.std.specs.List.{flat_map}
+use Rattle.std.specs.Simd.{first_chunks}
 use Rattle.hex.specs.Hex.{encode_lower}
 use Rattle.nbt_node.specs.declared.event.Event.{Event}
 use Rattle.nbt_node.specs.declared.event.Event.TheVariants as event
 use Rattle.nbt_session.specs.declared.caller.Failure.{Failure}
 use Rattle.nbt_session.specs.declared.caller.Failure.TheVariants as failure
 use Rattle.nbt_session.specs.Numbers.{failure_number}
+use Rattle.nbt_text.specs.Address.{entry_address}
 use Rattle.nbt_bench.specs.declared.outcome.Outcome.{Outcome}
 use Rattle.nbt_bench.specs.declared.outcome.Outcome.TheVariants as outcome
 
--- the address of an entry: two octets of flags, and four of the address
+-- the address of an entry
 abbrev pub entry_text : List ℕ → List ℕ
-entry_text e = codes " " ++ decimal (slice_index e 2) ++ codes "." ++ decimal (slice_index e 3) ++ codes "."
-    ++ decimal (slice_index e 4) ++ codes "." ++ decimal (slice_index e 5)
+entry_text e = codes " " ++ entry_address e
 
 -- the addresses of entries of six octets each
-unfoldable pub addresses_text : List ℕ → List ℕ
-addresses_text (a ∷ b ∷ c ∷ d ∷ e ∷ f ∷ rest) = entry_text (a ∷ b ∷ c ∷ d ∷ e ∷ f ∷ []) ++ addresses_text rest
-addresses_text rest = []
+abbrev pub addresses_text : List ℕ → List ℕ
+addresses_text octets = flat_map entry_text (first_chunks 6 (length octets / 6) octets)
 
 -- what a reply was to a node
 abbrev pub event_text : Event → List ℕ

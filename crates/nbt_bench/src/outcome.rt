@@ -6,7 +6,7 @@ ghost use Rattle.nbt_bench.specs.Texts.{outcome_text, event_text, addresses_text
 
 use nbt_node::Event;
 use nbt_session::Failure;
-use nbt_text::write_hexadecimal;
+use nbt_text::{write_entry_address, write_hexadecimal};
 use std::alloc::AllocError;
 
 /// What came of a step.
@@ -54,20 +54,19 @@ fn write_event(event: Event<'_>, out: &mut String) -> Result<(), AllocError>
 fn write_addresses(entries: &[u8], out: &mut String) -> Result<(), AllocError>
     ensures { OnOk result (string_bytes out.new ≡ string_bytes out.old ++ addresses_text entries.now) }
 {
-    let mut rest = entries;
-    'entries: while let Some((entry, others)) = rest.split_first_chunk::<6>() {
+    let (entries, _) = entries.as_chunks::<6>();
+    for entry in entries {
         write_entry(entry, out)?;
-        rest = others;
     }
     Ok(())
 }
 
-/// Appends the address of one entry: it has two octets of flags, and four of the address (RFC 1002 section 4.2.13).
+/// Appends the address of one entry.
 fn write_entry(entry: &[u8; 6], out: &mut String) -> Result<(), AllocError>
     ensures { OnOk result (string_bytes out.new ≡ string_bytes out.old ++ entry_text entry.now) }
 {
-    let [_, _, a, b, c, d] = *entry;
-    write!(out, " {a}.{b}.{c}.{d}")
+    out.push_str(" ")?;
+    write_entry_address(entry, out)
 }
 
 /// Appends why a call failed: the code of a refusal in hexadecimal, or the number of the failure.

@@ -2,8 +2,9 @@
 
 use crate::deciding::Decision;
 use nbt_lease::Moment;
-use nbt_log::{Limiter, write_word};
+use nbt_log::Limiter;
 use nbt_name::Name;
+use nbt_text::write_word;
 use std::alloc::{AllocError, Global};
 use std::io;
 use std::io::Write;

@@ -24,8 +24,6 @@ mod Quiet
 mod Opened
 -- a host begins, and what follows from how its calls came out
 mod Beginning
--- what a host keeps of its names when it starts
-mod Starting
 -- the end of a host, by how the releases came out
 mod Ended
 -- names that a host left, before a request was sent

@@ -18,22 +18,6 @@ use Rattle.nbt_node.specs.Answering.{own_reply, sent_back}
 use Rattle.nbt_host.specs.Noticing.{doubted, notice_of}
 use Rattle.nbt_host.specs.Hosting.{sending_to, doubting, HostHears, hears_nothing, hears, hears_back, LosesReply, loses_reply}
 
--- what is no query is replied to by the node itself, or not at all
-pub sent_back_other : (node : NodeValue) (now : ℕ) (message : Message) (told : Told) (reply : List ℕ) → ((id : ℕ) (name : NameValue) → message ≡ m.Query id name → ⊥)
-    → sent_back node now (Some (message_of message)) told reply ≡ own_reply told reply
-sent_back_other node now (m.Registration r) told reply none = refl
-sent_back_other node now (m.Overwrite r) told reply none = refl
-sent_back_other node now (m.Refresh r) told reply none = refl
-sent_back_other node now (m.Release id name kind addr) told reply none = refl
-sent_back_other node now (m.Query id name) told reply none = absurd (none id name refl)
-sent_back_other node now (m.StatusRequest id name) told reply none = refl
-sent_back_other node now (m.Registered rcode r) told reply none = refl
-sent_back_other node now (m.Released id rcode name kind addr) told reply none = refl
-sent_back_other node now (m.Found id name ttl entries cut) told reply none = refl
-sent_back_other node now (m.NotFound id rcode name) told reply none = refl
-sent_back_other node now (m.Status id name names) told reply none = refl
-sent_back_other node now (m.Wait id name ttl) told reply none = refl
-
 -- ---- what is sent back, by what its sending returned
 
 pub back_sent : {P A : Type 0} (does : P → PortCall → P → Type 0) (p q : P) (to : Route) (what : Option (List ℕ)) (out : List ℕ) (result : Result A Device) → what ≡ Some out → does p (sending to out result) q → OnOk result (Chain does p (sending_to to what) q)

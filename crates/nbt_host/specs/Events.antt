@@ -4,7 +4,8 @@ use Rattle.std.specs.Fmt.{decimal}
 use Rattle.nbt_name.specs.Wire.{NameValue}
 use Rattle.nbt_text.specs.Lines.{newline}
 use Rattle.nbt_log.specs.Dates.{IsTimeText}
-use Rattle.nbt_log.specs.Lines.{PrintsWord, seconds_text, reason_text}
+use Rattle.nbt_log.specs.Lines.{seconds_text, reason_text}
+use Rattle.nbt_text.specs.ScopedNames.{PrintsWord}
 use Rattle.nbt_host.specs.declared.event.Event.{Event}
 use Rattle.nbt_host.specs.declared.event.Event.TheVariants as e
 

@@ -1,7 +1,8 @@
 -- What is printed of names that were given back (our profile).
 use Rattle.std.specs.Prelude.{◌≡◌, ℕ, Bool, false, ◌||◌, nat_eq, if◌then◌else◌, List, [], ◌∷◌, ◌++◌, Option, Some, None, codes}
 use Rattle.nbt_text.specs.Lines.{newline}
-use Rattle.nbt_log.specs.Lines.{PrintsWord, reason_text}
+use Rattle.nbt_log.specs.Lines.{reason_text}
+use Rattle.nbt_text.specs.ScopedNames.{PrintsWord}
 use Rattle.nbt_host.specs.declared.release.Release.{Release}
 
 -- The RCODE of a server that has no such name, NAM_ERR. RFC 1002 section 4.2.11 has no word for that; Samba's server says so.

@@ -4,9 +4,9 @@ ghost use Rattle.std.specs.Prelude.{◌≡◌, ◌++◌, ℕ, List, OnOk};
 ghost use Rattle.std.specs.String.{string_bytes};
 ghost use Rattle.nbt_host.specs.Events.{words_before, seconds_and, text_after, IsLine};
 
-use nbt_log::{write_reason, write_seconds, write_time, write_word};
+use nbt_log::{write_reason, write_seconds, write_time};
 use nbt_name::Name;
-use nbt_text::end_line;
+use nbt_text::{end_line, write_word};
 use std::alloc::AllocError;
 
 /// What a line of a host tells of a name.

@@ -7,8 +7,8 @@ ghost use Rattle.nbt_host.specs.TurnLines.{TellsAll};
 ghost use Rattle.nbt_host.specs.Outcomes.{IsOutcomeLine, words_before, text_after, is_confirmed};
 
 use crate::release::Release;
-use nbt_log::{write_reason, write_word};
-use nbt_text::end_line;
+use nbt_log::write_reason;
+use nbt_text::{end_line, write_word};
 use std::alloc::AllocError;
 
 /// RCODE: the name isn't there (NAM_ERR), as a server says of a name that it has no lease of.

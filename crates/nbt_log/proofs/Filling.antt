@@ -3,7 +3,8 @@ use Rattle.std.proofs.Common.{◌≡◌, ℕ, ◌-◌, ◌⊎◌, List, [], leng
 use Rattle.std.specs.Prelude.{slice_index, replicate}
 use Rattle.nbt_text.specs.SuffixedNames.{IsCutAt}
 use Rattle.nbt_text.proofs.Words.{cut_is_one}
-use Rattle.nbt_log.specs.Hosts.{IsHostCharacter, IsHostName, IsSpace, server_octets, space}
+use Rattle.nbt_text.specs.HostNames.{IsHostCharacter, IsHostName}
+use Rattle.nbt_log.specs.Hosts.{IsSpace, server_octets, space}
 
 no_space : (octet : ℕ) → IsHostCharacter octet → ¬ IsSpace octet
 no_space octet (inl (inl is)) e = omega (arith, is.0, e)

@@ -1,35 +1,14 @@
 -- The hosts of a name server, a line as in /etc/hosts for each (our profile).
-use Rattle.std.specs.Prelude.{◌≡◌, ◌≢◌, ◌⊎◌, ℕ, ◌-◌, ◌<◌, ◌≤◌, List, [], ◌∷◌, ◌++◌, length, replicate, slice_index, codes}
+use Rattle.std.specs.Prelude.{◌≡◌, ℕ, ◌-◌, ◌<◌, List, [], ◌++◌, length, replicate, codes}
 use Rattle.nbt_name.specs.Wire.{NameValue}
 use Rattle.nbt_name.specs.declared.addr.Kind.TheVariants.{Unique}
 use Rattle.nbt_lease.specs.declared.lease.Lease.{Lease}
 use Rattle.nbt_lease.specs.Lease.{Rows}
-use Rattle.nbt_text.specs.Address.{dotted}
+use Rattle.nbt_text.specs.HostNames.{IsHostName, host_line}
 use Rattle.nbt_text.specs.Lines.{newline}
+use Rattle.nbt_text.specs.Texts.{PrintsEach}
 
--- ---- host names
-
-abbrev pub hyphen : ℕ
-hyphen = 0x2D
-
-abbrev pub IsDigit : ℕ → Type 0
-IsDigit octet = (0x30 ≤ octet) × (octet ≤ 0x39)
-
--- a capital or a small letter
-abbrev pub IsLetter : ℕ → Type 0
-IsLetter octet = ((0x41 ≤ octet) × (octet ≤ 0x5A)) ⊎ ((0x61 ≤ octet) × (octet ≤ 0x7A))
-
-abbrev pub IsHostCharacter : ℕ → Type 0
-IsHostCharacter octet = IsLetter octet ⊎ (IsDigit octet ⊎ (octet ≡ hyphen))
-
--- One to fifteen letters, digits and hyphens, and no hyphen at an end (RFC 952, RFC 1123 section 2.1).
-pub record IsHostName (host : List ℕ) : Type 0 where
-  pub some : 0 < length host
-  pub few : length host ≤ 15
-  pub characters : (k : ℕ) → k < length host → IsHostCharacter (slice_index host k)
-  pub first : slice_index host 0 ≢ hyphen
-  pub last : slice_index host (length host - 1) ≢ hyphen
-
+-- ---- the name of a file server
 abbrev pub space : ℕ
 space = 0x20
 
@@ -48,9 +27,6 @@ pub record IsHost (name : NameValue) (host : List ℕ) : Type 0 where
 
 -- ---- lines
 
-abbrev pub host_line : (addr : ℕ) → (host : List ℕ) → List ℕ
-host_line addr host = dotted addr ++ codes " " ++ host ++ newline
-
 -- The lease of a row lives, and is that of this host.
 pub record HasHost (now : ℕ) (row : NameValue × Lease) (host : List ℕ) : Type 0 where
   pub lives : now < row.1.end
@@ -62,14 +38,9 @@ pub data PrintsHost (now : ℕ) (row : NameValue × Lease) : List ℕ → Type 0
   listed : (host : List ℕ) → HasHost now row host → PrintsHost now row (host_line row.1.addr host)
   left_out : ((host : List ℕ) → ¬ HasHost now row host) → PrintsHost now row []
 
--- all rows, in their order
-pub data PrintsHosts (now : ℕ) : Rows → List ℕ → Type 0 where
-  no_row : PrintsHosts now [] []
-  row : (first : NameValue × Lease) (rows : Rows) (line text : List ℕ) → PrintsHost now first line → PrintsHosts now rows text → PrintsHosts now (first ∷ rows) (line ++ text)
-
 -- the first line, which says what a file is
 abbrev pub hosts_head : List ℕ
 hosts_head = codes "# hosts of nbt nbns" ++ newline
 
 abbrev pub IsHosts : (now : ℕ) → Rows → List ℕ → Type 0
-IsHosts now rows text = (lines : List ℕ) × PrintsHosts now rows lines × (text ≡ hosts_head ++ lines)
+IsHosts now rows text = (lines : List ℕ) × PrintsEach (PrintsHost now) rows lines × (text ≡ hosts_head ++ lines)

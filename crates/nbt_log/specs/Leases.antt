@@ -1,14 +1,15 @@
 -- The list of live leases: what it is, and a line each (our profile).
-use Rattle.std.specs.Prelude.{◌≡◌, ◌⊎◌, ℕ, ◌<◌, ◌≤◌, List, [], ◌∷◌, ◌++◌, codes}
+use Rattle.std.specs.Prelude.{◌≡◌, ◌⊎◌, ℕ, ◌<◌, ◌≤◌, List, [], ◌++◌, codes}
 use Rattle.nbt_lease.specs.declared.lease.Lease.{Lease}
 use Rattle.nbt_lease.specs.Lease.{Rows}
 use Rattle.nbt_name.specs.Wire.{NameValue}
 use Rattle.nbt_show.specs.Holders.{kind_word}
 use Rattle.nbt_text.specs.Address.{dotted}
 use Rattle.nbt_text.specs.Lines.{newline}
+use Rattle.nbt_text.specs.ScopedNames.{PrintsWord}
+use Rattle.nbt_text.specs.Texts.{PrintsEach}
 use Rattle.nbt_log.specs.declared.dates.Dates.{Dates}
 use Rattle.nbt_log.specs.Dates.{second_at, IsTimeText}
-use Rattle.nbt_log.specs.Lines.{PrintsWord}
 
 -- of which kind a lease is, and which machine has it, as ` unique 192.0.2.7 `
 abbrev pub machine : Lease → List ℕ
@@ -27,18 +28,13 @@ pub data PrintsRow (dates : Dates) (now : ℕ) (row : NameValue × Lease) (text 
   lives : now < row.1.end → IsLeaseText dates row.0 row.1 text → PrintsRow dates now row text
   is_over : row.1.end ≤ now → text ≡ [] → PrintsRow dates now row text
 
--- all rows, in their order
-pub data PrintsLeases (dates : Dates) (now : ℕ) : Rows → List ℕ → Type 0 where
-  no_row : PrintsLeases dates now [] []
-  row : (first : NameValue × Lease) (rows : Rows) (line text : List ℕ) → PrintsRow dates now first line → PrintsLeases dates now rows text → PrintsLeases dates now (first ∷ rows) (line ++ text)
-
 -- the first line, which says what a file is
 abbrev pub list_head : List ℕ
 list_head = codes "# live leases of nbt nbns" ++ newline
 
--- The list: the first line, and the rows.
+-- The list: the first line, and the rows in their order.
 abbrev pub IsList : Dates → ℕ → Rows → List ℕ → Type 0
-IsList dates now rows text = (lines : List ℕ) × PrintsLeases dates now rows lines × (text ≡ list_head ++ lines)
+IsList dates now rows text = (lines : List ℕ) × PrintsEach (PrintsRow dates now) rows lines × (text ≡ list_head ++ lines)
 
 -- A text with this first line may be put in place of a file that has no octet, and of one whose first octets are that line.
 abbrev pub MayReplace : (head first : List ℕ) → Type 0

@@ -1,12 +1,11 @@
 -- The line of what a server did with a datagram (our profile).
-use Rattle.std.specs.Prelude.{◌≡◌, ◌≢◌, ℕ, nat_eq, Bool, if◌then◌else◌, List, [], ◌++◌, codes}
+use Rattle.std.specs.Prelude.{◌≡◌, ℕ, nat_eq, Bool, if◌then◌else◌, List, [], ◌++◌, codes}
 use Rattle.std.specs.Fmt.{decimal}
 use Rattle.nbt_name.specs.declared.addr.Addr.{Addr}
 use Rattle.nbt_name.specs.Wire.{NameValue}
-use Rattle.nbt_text.specs.SuffixedNames.{PrintsOctets}
 use Rattle.nbt_text.specs.Address.{dotted, address_text}
 use Rattle.nbt_text.specs.Lines.{newline}
-use Rattle.nbt_text.specs.NameText.{PrintsLabels}
+use Rattle.nbt_text.specs.ScopedNames.{PrintsWord}
 use Rattle.nbt_show.specs.Holders.{kind_word}
 use Rattle.nbt_show.specs.Rcodes.{rcode_words}
 use Rattle.nbt_log.specs.Dates.{IsTimeText}
@@ -17,14 +16,6 @@ use Rattle.nbt_server.specs.declared.outcome.Outcome.{Outcome}
 use Rattle.nbt_server.specs.declared.outcome.Outcome.TheVariants as o
 use Rattle.nbt_server.specs.Outcomes.{rcode_of}
 use Rattle.nbt_log.specs.declared.entry.Entry.{Entry}
-
--- A name as FILER#20, and behind it the labels of its scope, each after a dot, as the bench's commands print them.
-pub record PrintsWord (name : NameValue) (word : List ℕ) : Type 0 where
-  pub front : List ℕ
-  pub labels : List ℕ
-  pub octets_are : PrintsOctets name.octets front
-  pub labels_are : PrintsLabels name.scope labels
-  pub word_is : word ≡ front ++ labels
 
 -- by which machine a name is claimed, and as what, as ` 192.0.2.7 unique`
 abbrev pub place : Claim → List ℕ

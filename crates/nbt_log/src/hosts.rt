@@ -1,24 +1,18 @@
 //! The hosts of a name server, as a resolver reads them.
 
-ghost use Rattle.std.specs.Prelude.{◌≡◌, ◌++◌, ◌↔◌, ◌<◌, ◌≤◌, ℕ, List, length, slice_index, IsTrue, IfSome, IsNone, OnOk};
+ghost use Rattle.std.specs.Prelude.{◌≡◌, ◌++◌, ◌↔◌, ◌≤◌, ℕ, List, length, IsTrue, IfSome, IsNone, OnOk};
 ghost use Rattle.std.specs.String.{string_bytes};
 ghost use Rattle.nbt_text.specs.SuffixedNames.{IsCutAt};
-ghost use Rattle.nbt_log.specs.Hosts.{HasHost, IsHost, IsHostName, IsHostCharacter, IsSpace, PrintsHost, PrintsHosts, IsHosts, host_line, server_octets};
+ghost use Rattle.nbt_text.specs.Texts.{PrintsEach};
+ghost use Rattle.nbt_log.specs.Hosts.{HasHost, IsHost, IsSpace, PrintsHost, IsHosts, server_octets};
 
-use crate::word::write_dotted;
 use nbt_lease::{Lease, Moment};
 use nbt_name::{Kind, Name};
-use nbt_text::end_line;
+use nbt_text::{is_host_name, write_host};
 use std::alloc::AllocError;
 
 /// The first line of the hosts, with its end, which says what a file is (our profile). A resolver passes it over.
 pub const HOSTS_HEAD: &str = "# hosts of nbt nbns\n";
-
-/// The most characters of a host's name (RFC 1001 section 14, our profile).
-const HOST_MOST: usize = 15;
-
-/// What may stand within a host name, and not at its ends.
-const HYPHEN: u8 = b'-';
 
 /// Appends the hosts of these rows at `now`, in their order: the line [`HOSTS_HEAD`], and then a line as in /etc/hosts for each
 /// live lease of a unique name of suffix 20, a file server's, without a scope, as `192.0.2.7 FILER`. A name that is no host name is
@@ -33,7 +27,7 @@ pub fn write_hosts(now: Moment, rows: &[(Name, Lease)], out: &mut String) -> Res
 
 /// Appends the lines of the rows, in their order.
 fn write_rows(now: Moment, rows: &[(Name, Lease)], out: &mut String) -> Result<(), AllocError>
-    ensures { OnOk result ((text : List ℕ) × PrintsHosts now rows.now text × (string_bytes out.new ≡ string_bytes out.old ++ text)) }
+    ensures { OnOk result ((text : List ℕ) × PrintsEach (PrintsHost now) rows.now text × (string_bytes out.new ≡ string_bytes out.old ++ text)) }
 {
     let mut rest = rows;
     'rows: while let Some((row, others)) = rest.split_first() {
@@ -67,28 +61,6 @@ fn host_in(now: Moment, row: &(Name, Lease)) -> Option<&[u8]>
     }
 }
 
-/// Appends the line of a host.
-fn write_host(addr: u32, host: &[u8], out: &mut String) -> Result<(), AllocError>
-    requires { IsHostName host.now }
-    ensures { OnOk result (string_bytes out.new ≡ string_bytes out.old ++ host_line addr host.now) }
-{
-    write_dotted(addr, out)?;
-    out.push(' ')?;
-    write_characters(host, out)?;
-    end_line(out)
-}
-
-/// Appends the characters of a host name.
-fn write_characters(host: &[u8], out: &mut String) -> Result<(), AllocError>
-    requires { IsHostName host.now }
-    ensures { OnOk result (string_bytes out.new ≡ string_bytes out.old ++ host.now) }
-{
-    for octet in host {
-        out.push(char::from(*octet))?;
-    }
-    Ok(())
-}
-
 /// The host name of a file server, if its name is one.
 fn host_of(name: &Name) -> Option<&[u8]>
     ensures host { IfSome result (λ host. IsHost name.now host.now) }
@@ -118,35 +90,6 @@ fn is_space(octet: u8) -> bool
     ensures { IsTrue result ↔ IsSpace octet }
 {
     octet == b' '
-}
-
-/// Whether these characters are a host name.
-fn is_host_name(host: &[u8]) -> bool
-    ensures { IsTrue result ↔ IsHostName host.now }
-{
-    if host.is_empty() || host.len() > HOST_MOST {
-        return false;
-    }
-    host[0] != HYPHEN && host[host.len() - 1] != HYPHEN && are_host_characters(host)
-}
-
-/// Whether each of these is a character of a host name.
-fn are_host_characters(octets: &[u8]) -> bool
-    ensures { IsTrue result ↔ ((k : ℕ) → k < length octets.now → IsHostCharacter (slice_index octets.now k)) }
-{
-    'octets: for place in 0..octets.len() {
-        if !is_host_character(octets[place]) {
-            return false;
-        }
-    }
-    true
-}
-
-/// Whether this is a letter, a digit or a hyphen.
-fn is_host_character(octet: u8) -> bool
-    ensures { IsTrue result ↔ IsHostCharacter octet }
-{
-    matches!(octet, b'A'..=b'Z' | b'a'..=b'z' | b'0'..=b'9' | HYPHEN)
 }
 
 /// The sixteen octets of the file server of this name.

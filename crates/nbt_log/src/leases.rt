@@ -2,15 +2,15 @@
 
 ghost use Rattle.std.specs.Prelude.{◌≡◌, ◌++◌, ◌↔◌, ℕ, List, OnOk, IsTrue};
 ghost use Rattle.std.specs.String.{string_bytes};
-ghost use Rattle.nbt_log.specs.Leases.{IsLeaseText, PrintsRow, PrintsLeases, IsList, MayReplace, machine};
+ghost use Rattle.nbt_text.specs.Texts.{PrintsEach};
+ghost use Rattle.nbt_log.specs.Leases.{IsLeaseText, PrintsRow, IsList, MayReplace, machine};
 
 use crate::dates::Dates;
 use crate::time::write_time;
-use crate::word::{write_dotted, write_word};
 use nbt_lease::{Lease, Moment};
 use nbt_name::Name;
 use nbt_show::kind_word;
-use nbt_text::end_line;
+use nbt_text::{end_line, write_dotted, write_word};
 use std::alloc::AllocError;
 
 /// The first line of a list of leases, with its end, which says what a file is (our profile).
@@ -46,7 +46,7 @@ fn write_leases(
     rows: &[(Name, Lease)],
     out: &mut String,
 ) -> Result<(), AllocError>
-    ensures { OnOk result ((text : List ℕ) × PrintsLeases dates.now now rows.now text × (string_bytes out.new ≡ string_bytes out.old ++ text)) }
+    ensures { OnOk result ((text : List ℕ) × PrintsEach (PrintsRow dates.now now) rows.now text × (string_bytes out.new ≡ string_bytes out.old ++ text)) }
 {
     let mut rest = rows;
     'rows: while let Some((row, others)) = rest.split_first() {

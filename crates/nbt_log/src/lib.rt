@@ -25,7 +25,6 @@ mod stats;
 mod summary;
 mod tally;
 mod time;
-mod word;
 
 pub use dates::Dates;
 pub use entry::{Entry, LineKind};
@@ -41,4 +40,3 @@ pub use stats::{Figures, STATS_HEAD, write_stats};
 pub use summary::write_summary;
 pub use tally::{OutcomeCounts, RefusalCounts, Tally};
 pub use time::write_time;
-pub use word::{write_dotted, write_word};

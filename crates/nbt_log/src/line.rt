@@ -7,11 +7,10 @@ ghost use Rattle.nbt_text.specs.Address.{dotted};
 
 use crate::entry::Entry;
 use crate::time::write_time;
-use crate::word::{write_dotted, write_word};
 use nbt_name::{Addr, Name};
 use nbt_server::{Claim, Outcome, Refusal};
 use nbt_show::{kind_word, rcode_words};
-use nbt_text::{end_line, write_address};
+use nbt_text::{end_line, write_address, write_dotted, write_word};
 use std::alloc::AllocError;
 
 /// Appends the line of what a server did with a datagram in a second since 1970, as `2026-11-24T09:12:03Z granted FILER#20

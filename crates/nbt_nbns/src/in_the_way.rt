@@ -1,8 +1,9 @@
 //! What is said at the start of leases that stand in the way of fixed names.
 
 use nbt_lease::{Lease, Moment};
-use nbt_log::{Dates, write_dotted, write_time, write_word};
+use nbt_log::{Dates, write_time};
 use nbt_name::Name;
+use nbt_text::{write_dotted, write_word};
 use std::alloc::{AllocError, Global};
 use std::io;
 use std::io::Write;

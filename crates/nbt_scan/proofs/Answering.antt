@@ -22,21 +22,6 @@ pub none_then : {X P Q : Type 0} (r : Option X) → IfNone r P → (P → Q) →
 none_then None h f = f h
 none_then (Some x) h f = tt
 
--- another message is none
-pub is_other : (message : Message) → ((id : ℕ) (name : NameValue) (names : Bor (List ℕ)) → message ≢ m.Status id name names) → (id : ℕ) (name : NameValue) (names : List ℕ) → message_of message ≢ status id name names
-is_other (m.Registration _) other id name names e = cc
-is_other (m.Overwrite _) other id name names e = cc
-is_other (m.Refresh _) other id name names e = cc
-is_other (m.Release _ _ _ _) other id name names e = cc
-is_other (m.Query _ _) other id name names e = cc
-is_other (m.StatusRequest _ _) other id name names e = cc
-is_other (m.Registered _ _) other id name names e = cc
-is_other (m.Released _ _ _ _ _) other id name names e = cc
-is_other (m.Found _ _ _ _ _) other id name names e = cc
-is_other (m.NotFound _ _ _) other id name names e = cc
-is_other (m.Status told n o) other id name names e = other told n o refl
-is_other (m.Wait _ _ _) other id name names e = cc
-
 module _ (id : ℕ) (octets : List ℕ) (packet : PacketValue) (taken : ℕ) (message : MessageValue) (stands : PacketIs octets packet taken) (spells : MessageIs packet message)
     (one : (p : PacketValue) (n : ℕ) → PacketIs octets p n → p ≡ packet) (says : (said : MessageValue) → MessageIs packet said → said ≡ message) where
   -- the message is such a response

@@ -15,15 +15,6 @@ one_less flags i is =
     let e = rw at at (sum_by-set (λ (x : Bool). cond (not x) 1 0) flags i true false within) in
     omega (arith, e)
 
--- none is missing where all have replied
-pub none_missing : (flags : List Bool) → nat_eq (count_by not flags) 0 ≡ list_all (λ reply. reply) flags
-none_missing [] = refl
-none_missing (true ∷ flags) = ap (λ (n : ℕ). nat_eq n 0) (sum_by-cons (λ (x : Bool). cond (not x) 1 0) true flags ∙ zero-add (count_by not flags)) ∙ none_missing flags
-none_missing (false ∷ flags) = ap (λ (n : ℕ). nat_eq n 0) (sum_by-cons (λ (x : Bool). cond (not x) 1 0) false flags) ∙ some_missing (count_by not flags)
-  where
-    some_missing : (n : ℕ) → nat_eq (1 + n) 0 ≡ false
-    some_missing n = grind (arith, nat_tests)
-
 -- each has replied or hasn't
 pub missing_and_not : (flags : List Bool) → count_by not flags + count_by (λ reply. reply) flags ≡ length flags
 missing_and_not [] = refl

@@ -10,15 +10,12 @@ pub mod Answering
 -- what is done at a moment, what a turn does, and turns up to the end
 pub mod Asking
 pub mod Hearings
--- whether a printed name is a host's
-pub mod HostNames
 pub mod Turns
--- how many addresses runs have, and lists made of a list's elements
+-- how many addresses runs have
 pub mod Sizes
-pub mod Joins
+-- texts written one after another
 pub mod Parts
--- what texts spell, and what is taken of it
+-- what texts spell
 pub mod Spelling
-pub mod Taking
 -- a list of names in an object of JSON
 pub mod Objects

@@ -7,7 +7,8 @@ use Rattle.std.proofs.lemmas.Bool.{lt-ltb, le-ltb}
 use Rattle.std.proofs.lemmas.Nat.{pow-add, pow_pos, mul-add-lt}
 use Rattle.std.proofs.Math.Pow.{shr_lt}
 use Rattle.nbt_scan.specs.declared.span.Span.{Span}
-use Rattle.nbt_scan.specs.Words.{Has, HasNone, before, behind, SpellsIp, IsWithin, SpellsNetwork, SpellsLast, SpellsRange, SpellsSpan, network, range, address, margin}
+use Rattle.nbt_text.specs.Number.{SpellsWithin}
+use Rattle.nbt_scan.specs.Words.{Has, HasNone, before, behind, SpellsIp, SpellsNetwork, SpellsLast, SpellsRange, SpellsSpan, network, range, address, margin}
 
 both : (mark : ℕ) (text : List ℕ) → Has mark text → HasNone mark text → ⊥
 both mark text has none = omega (arith, has, none)
@@ -61,15 +62,15 @@ not_by_ip : (first : ℕ) (text : List ℕ) → Has 0x2E text → ((ip : ℕ) �
 not_by_ip first text has none last (inl x) = none last x.1
 not_by_ip first text has none last (inr x) = both 0x2E text has x.1
 
-not_by_number : (first : ℕ) (text : List ℕ) → HasNone 0x2E text → ¬ IsWithin 0 255 text → (last : ℕ) → ¬ SpellsLast first text last
+not_by_number : (first : ℕ) (text : List ℕ) → HasNone 0x2E text → ((number : ℕ) → ¬ SpellsWithin 0 255 text number) → (last : ℕ) → ¬ SpellsLast first text last
 not_by_number first text bare none last (inl x) = both 0x2E text x.0 bare
-not_by_number first text bare none last (inr x) = none (x.0, x.2)
+not_by_number first text bare none last (inr x) = none x.0 x.2
 
 pub last_ip : (first : ℕ) (text : List ℕ) (r : Option ℕ) → Has 0x2E text → IfNone r ((ip : ℕ) → ¬ SpellsIp text ip) → IfNone r ((last : ℕ) → ¬ SpellsLast first text last)
 last_ip first text None has none = not_by_ip first text has none
 last_ip first text (Some ip) has none = tt
 
-pub last_number : (first : ℕ) (text : List ℕ) (r : Option ℕ) → HasNone 0x2E text → IfNone r (¬ IsWithin 0 255 text) → IfNone r ((last : ℕ) → ¬ SpellsLast first text last)
+pub last_number : (first : ℕ) (text : List ℕ) (r : Option ℕ) → HasNone 0x2E text → IfNone r ((number : ℕ) → ¬ SpellsWithin 0 255 text number) → IfNone r ((last : ℕ) → ¬ SpellsLast first text last)
 last_number first text None bare none = not_by_number first text bare none
 last_number first text (Some ip) bare none = tt
 

@@ -1,9 +1,9 @@
 -- What stands in the columns of a host's line (our profile).
-use Rattle.std.specs.Prelude.{◌≡◌, ◌≢◌, ℕ, ◌-◌, List, [], ◌∷◌, ◌++◌, length, take, replicate, slice_index, Option, Some, None, codes}
+use Rattle.std.specs.Prelude.{◌≡◌, ◌≢◌, ℕ, ◌-◌, List, [], ◌∷◌, ◌++◌, length, take, replicate, Option, Some, None, codes}
 use Rattle.hex.specs.Hex.{encode_lower}
 use Rattle.nbt_text.specs.NameText.{prefix}
 use Rattle.nbt_text.specs.SuffixedNames.{IsSeen, fifteen}
-use Rattle.nbt_show.specs.NodeStatus.{pair}
+use Rattle.nbt_text.specs.UnitIds.{unit_digits}
 
 -- Sixteen octets without their suffix: the characters; all the octets in digits where they can't be written so.
 pub data PrintsStem : (octets word : List ℕ) → Type 0 where
@@ -21,9 +21,6 @@ server_word None = codes "-"
 server_word (Some name) = codes "server"
 
 -- as `00:50:56:c0:00:08`
-abbrev pub unit_digits : List ℕ → List ℕ
-unit_digits unit = encode_lower (slice_index unit 0 ∷ []) ++ pair (slice_index unit 1) ++ pair (slice_index unit 2) ++ pair (slice_index unit 3) ++ pair (slice_index unit 4) ++ pair (slice_index unit 5)
-
 abbrev pub unit_word : Option (List ℕ) → List ℕ
 unit_word None = codes "-"
 unit_word (Some unit) = unit_digits unit

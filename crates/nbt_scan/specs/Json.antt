@@ -6,7 +6,8 @@ use Rattle.nbt_text.specs.Lines.{newline}
 use Rattle.nbt_text.specs.SuffixedNames.{PrintsOctets}
 use Rattle.nbt_show.specs.Rows.{PrintsRows}
 use Rattle.nbt_scan.specs.declared.host.Host.{Host}
-use Rattle.nbt_scan.specs.Cells.{PrintsStem, unit_digits}
+use Rattle.nbt_text.specs.UnitIds.{unit_digits}
+use Rattle.nbt_scan.specs.Cells.{PrintsStem}
 
 -- A quotation mark and a backslash stand behind a backslash (RFC 8259 section 7). What isn't a character of ASCII that can be seen, or a
 -- space, is a question mark; no name is printed with such an octet.

@@ -1,7 +1,7 @@
 -- The lines of a host that replied to a scan (our profile).
-use Rattle.std.specs.Prelude.{◌≡◌, ℕ, ◌-◌, Bool, not, ◌&&◌, ◌||◌, nat_eq, nat_le, if◌then◌else◌, List, [], ◌++◌, length, slice_index, Option, Some, None, codes}
-use Rattle.std.specs.List.{list_all}
+use Rattle.std.specs.Prelude.{◌≡◌, ℕ, List, [], ◌++◌, Option, Some, None, codes}
 use Rattle.nbt_text.specs.Address.{dotted}
+use Rattle.nbt_text.specs.HostNames.{IsHostName, host_line}
 use Rattle.nbt_text.specs.Lines.{newline}
 use Rattle.nbt_show.specs.NodeStatus.{IsNameLine}
 use Rattle.nbt_show.specs.Rows.{PrintsRows}
@@ -30,14 +30,6 @@ IsNameBelow name line = (text : List ℕ) × IsNameLine name text × (line ≡ c
 
 -- ---- a line of /etc/hosts
 
--- a letter, a digit or a hyphen
-abbrev pub is_host_octet : ℕ → Bool
-is_host_octet octet = (nat_le 0x30 octet && nat_le octet 0x39) || (nat_le 0x41 octet && nat_le octet 0x5A) || (nat_le 0x61 octet && nat_le octet 0x7A) || nat_eq octet 0x2D
-
--- the name of a host, which neither begins nor ends with a hyphen (RFC 952, RFC 1123 section 2.1)
-abbrev pub is_host_name : List ℕ → Bool
-is_host_name word = list_all is_host_octet word && not (nat_eq (slice_index word 0) 0x2D) && not (nat_eq (slice_index word (length word - 1)) 0x2D)
-
 -- a file server's name, and where it has none the computer's
 abbrev pub name_of : Host → Option (List ℕ)
 name_of host = server_or host.server host.computer
@@ -47,8 +39,9 @@ name_of host = server_or host.server host.computer
     server_or (Some name) computer = Some name
 
 -- as `192.0.2.7 FILER`; nothing where the name isn't a host's
-abbrev pub IsHostsLine : (ip : ℕ) → Host → (line : List ℕ) → Type 0
-IsHostsLine ip host line = (word : List ℕ) × PrintsName (name_of host) word × (line ≡ (if is_host_name word then dotted ip ++ codes " " ++ word ++ newline else []))
+pub data IsHostsLine (ip : ℕ) (host : Host) (line : List ℕ) : Type 0 where
+  of_host : (word : List ℕ) → PrintsName (name_of host) word → IsHostName word → line ≡ host_line ip word → IsHostsLine ip host line
+  of_other : (word : List ℕ) → PrintsName (name_of host) word → ¬ IsHostName word → line ≡ [] → IsHostsLine ip host line
 
 -- ---- each form
 

@@ -4,7 +4,7 @@ use Rattle.std.specs.List.{before_first, after_first, position_or_len}
 use Rattle.std.specs.Net.Addr.{ipv4_bits}
 use Rattle.std.specs.Net.Grammar.{IsIpv4Text}
 use Rattle.std.specs.declared.net.ipv4_addr.Ipv4Addr.{Ipv4Addr}
-use Rattle.nbt_text.specs.Number.{SpellsNumber}
+use Rattle.nbt_text.specs.Number.{SpellsWithin}
 use Rattle.nbt_scan.specs.declared.span.Span.{Span}
 
 -- what stands before the first such mark, and behind it
@@ -30,13 +30,6 @@ addresses_of bits = 2 ^ (32 - bits)
 
 abbrev pub margin : (bits : ℕ) → ℕ
 margin bits = if nat_lt bits 31 then 1 else 0
-
--- a number from a least one up to a greatest one
-abbrev pub SpellsWithin : (least most : ℕ) → List ℕ → (number : ℕ) → Type 0
-SpellsWithin least most text number = SpellsNumber text number × ((least ≤ number) × (number ≤ most))
-
-abbrev pub IsWithin : (least most : ℕ) → List ℕ → Type 0
-IsWithin least most text = (number : ℕ) × SpellsWithin least most text number
 
 -- as 192.0.2.0/24: the addresses of the network that has this one
 pub record SpellsNetwork (front digits : List ℕ) (span : Span) : Type 0 where

@@ -6,9 +6,9 @@ ghost use Rattle.nbt_text.specs.Address.{dotted};
 ghost use Rattle.nbt_scan.specs.Cells.{PrintsName, column};
 ghost use Rattle.nbt_scan.specs.Lines.{IsColumns};
 
-use crate::cells::{server_word, write_dotted, write_name, write_unit};
+use crate::cells::{server_word, write_name, write_unit};
 use crate::host::Host;
-use nbt_text::end_line;
+use nbt_text::{end_line, write_dotted};
 use std::alloc::AllocError;
 
 /// The width of an address, 255.255.255.255, and of a name without its suffix.

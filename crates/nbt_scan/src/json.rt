@@ -7,9 +7,9 @@ ghost use Rattle.nbt_text.specs.Address.{dotted};
 ghost use Rattle.nbt_show.specs.Rows.{PrintsRows};
 ghost use Rattle.nbt_scan.specs.Json.{escaped, string, member, next, PrintsValue, server_value, unit_value, IsName, IsNextName, PrintsNames, IsObject};
 
-use crate::cells::{write_digits, write_dotted, write_stem};
+use crate::cells::write_stem;
 use crate::host::Host;
-use nbt_text::{end_line, write_octets};
+use nbt_text::{end_line, write_dotted, write_octets, write_unit_id};
 use std::alloc::AllocError;
 
 /// Appends a host as an object of JSON (RFC 8259), and the end of the line. Its members are `address`; `computer`, `workgroup` and
@@ -103,7 +103,7 @@ fn write_unit_value(unit: Option<[u8; 6]>, out: &mut String) -> Result<(), Alloc
         return out.push_str("null");
     };
     let mut word = String::new(*out.allocator());
-    write_digits(&unit, &mut word)?;
+    write_unit_id(&unit, &mut word)?;
     write_string(word.as_str(), out)
 }
 

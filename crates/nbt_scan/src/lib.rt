@@ -49,4 +49,4 @@ pub use sheet::{Kept, write_kept};
 pub use span::Span;
 pub use spans::{addresses_of, are_few};
 pub use status::{Status, status_in};
-pub use words::{SpanFault, number_within, span_of};
+pub use words::{SpanFault, span_of};

@@ -6,6 +6,7 @@ ghost use Rattle.nbt_packet.specs.Message.{MessageIs, NameValue, message_of, sta
 ghost use Rattle.nbt_scan.specs.Statuses.{IsStatus, IsNoStatus};
 
 use nbt_packet::{Message, Packet, classify, decode};
+use nbt_show::statistics_of;
 
 /// What a node status response says (RFC 1002 section 4.2.18).
 #[derive(Clone, Copy)]
@@ -52,17 +53,4 @@ fn status_of<'a>(packet: &Packet<'a>, message: &Message<'a>, id: u16) -> Option<
         names,
         statistics: statistics_of(packet, names),
     })
-}
-
-/// What stands after the names in the answer's RDATA, if anything.
-fn statistics_of<'a>(packet: &Packet<'a>, names: &[u8]) -> &'a [u8]
-    ensures { (answer : RecordValue) → (packet_of packet.now).answer ≡ Some answer → result.now ≡ drop (1 + length names.now) answer.rdata }
-{
-    match &packet.answer {
-        Some(answer) => match answer.rdata.split_at_checked(1 + names.len()) {
-            Some((_, statistics)) => statistics,
-            None => &[],
-        },
-        None => &[],
-    }
 }

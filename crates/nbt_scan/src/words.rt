@@ -1,11 +1,12 @@
 //! Reads networks, ranges and addresses.
 
-ghost use Rattle.std.specs.Prelude.{◌≡◌, ◌+◌, ◌*◌, ◌/◌, ◌^◌, ◌<◌, ◌≤◌, ◌↔◌, ℕ, IsSome, IfSome, IfNone, MatchResult, MatchOption};
+ghost use Rattle.std.specs.Prelude.{◌≡◌, ◌+◌, ◌*◌, ◌/◌, ◌^◌, ◌<◌, ◌≤◌, ℕ, IfSome, IfNone, MatchResult, MatchOption};
+ghost use Rattle.nbt_text.specs.Number.{SpellsWithin};
 ghost use Rattle.nbt_scan.specs.declared.span.Span.{Span as Run};
-ghost use Rattle.nbt_scan.specs.Words.{SpellsIp, SpellsWithin, IsWithin, SpellsNetwork, SpellsLast, SpellsRange, SpellsSpan, Has, HasNone, before, behind, addresses_of, margin};
+ghost use Rattle.nbt_scan.specs.Words.{SpellsIp, SpellsNetwork, SpellsLast, SpellsRange, SpellsSpan, Has, HasNone, before, behind, addresses_of, margin};
 
 use crate::span::Span;
-use nbt_text::parse_number;
+use nbt_text::number_within;
 use std::net::Ipv4Addr;
 
 /// What is wrong with a text that is to be a network, a range or an address.
@@ -104,21 +105,10 @@ fn last_of(first: u32, text: &str) -> Option<u32>
 /// The address beside another whose last number this is.
 fn last_by(first: u32, text: &str) -> Option<u32>
     ensures found { IfSome result (λ last. (number : ℕ) × SpellsWithin 0 255 text.now number × (last ≡ first / 256 * 256 + number)) }
-    ensures none { IfNone result (¬ IsWithin 0 255 text.now) }
+    ensures none { IfNone result ((number : ℕ) → ¬ SpellsWithin 0 255 text.now number) }
 {
     match number_within(text, 0, 255) {
         Some(number) => Some(first / 256 * 256 + number as u32),
-        None => None,
-    }
-}
-
-/// Reads a whole number within these limits, if it is one.
-pub fn number_within(text: &str, least: u64, most: u64) -> Option<u64>
-    ensures read { IfSome result (SpellsWithin least most text.now) }
-    ensures found { IsWithin least most text.now → IsSome result }
-{
-    match parse_number(text.as_bytes()) {
-        Some(number) => between(number, least, most),
         None => None,
     }
 }
@@ -195,16 +185,4 @@ fn split_at(mark: char, text: &str) -> Option<(&str, &str)>
     ensures { MatchOption result (HasNone mark text.now) (λ parts. Has mark text.now × (parts.0.now ≡ before mark text.now) × (parts.1.now ≡ behind mark text.now)) }
 {
     text.split_once(mark)
-}
-
-/// Returns the number if it is within these limits.
-fn between(number: u64, least: u64, most: u64) -> Option<u64>
-    ensures found { IsSome result ↔ ((least ≤ number) × (number ≤ most)) }
-    ensures value { IfSome result (λ n. n ≡ number) }
-{
-    if least <= number && number <= most {
-        Some(number)
-    } else {
-        None
-    }
 }

@@ -10,7 +10,8 @@ use Rattle.nbt_session.specs.Stream.{Begins, IsPartial, StreamIs, HasFault}
 use Rattle.nbt_text.proofs.Joining.{two_parts}
 use Rattle.nbt_show.proofs.NextPacket.{left_is}
 use Rattle.nbt_show.specs.declared.session_packet.Whole.{Whole}
-use Rattle.nbt_show.specs.SessionText.{PrintsEach, no_packets, one_packet, whole_of}
+use Rattle.nbt_show.specs.SessionText.{whole_of}
+use Rattle.nbt_text.specs.Texts.{PrintsEach, none_printed, one_printed as packet_printed}
 
 -- each packet takes octets, and what is left stands after it
 behind : (n : ℕ) (octets : List ℕ) (packet : PacketValue) → Begins octets packet (drop n octets) → octets ≡ text packet ++ take (length octets - n) (drop n octets)
@@ -36,12 +37,12 @@ packet_first packet after packets left is stream = record {
 
 one_more : (PrintsOne : PacketValue → List ℕ → Type 0) (octets rest after lines line : List ℕ) (packet : PacketValue) → rest ≡ text packet ++ after → IsPacket packet → PrintsOne packet line → Continues PrintsOne octets rest lines → Continues PrintsOne octets after (lines ++ line)
 one_more PrintsOne octets rest after lines line packet e is prints so_far packets left more stream others =
-    let next = so_far (packet ∷ packets) left (line ++ more) (subst (λ (x : List ℕ). StreamIs x (packet ∷ packets) left) (sym e) (packet_first packet after packets left is stream)) (one_packet packet packets line more prints others) in
+    let next = so_far (packet ∷ packets) left (line ++ more) (subst (λ (x : List ℕ). StreamIs x (packet ∷ packets) left) (sym e) (packet_first packet after packets left is stream)) (packet_printed packet packets line more prints others) in
     (next.0, next.1, subst (λ (x : List ℕ). PrintsEach PrintsOne next.0 x) (sym (append_assoc lines line more)) next.2)
 
 pub all_printed : (PrintsOne : PacketValue → List ℕ → Type 0) (octets rest lines : List ℕ) → IsPartial rest → Continues PrintsOne octets rest lines → (all : List PacketValue) × StreamIs octets all rest × PrintsEach PrintsOne all lines
 all_printed PrintsOne octets rest lines partial so_far =
-    let next = so_far [] rest [] (record { whole = refl; each = tt; partial = partial }) no_packets in
+    let next = so_far [] rest [] (record { whole = refl; each = tt; partial = partial }) none_printed in
     (next.0, next.1, subst (λ (x : List ℕ). PrintsEach PrintsOne next.0 x) (append-nil lines) next.2)
 
 -- what was appended are the lines of the packets so far

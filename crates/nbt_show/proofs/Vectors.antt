@@ -18,13 +18,6 @@ use Rattle.nbt_packet.specs.Numbers.{fault_word}
 abbrev pub lost : Bor (List ℕ)
 lost = record { ref_ptr = (0, 0); now = [] }
 
-pub three_texts : (words : List (Bor (List ℕ))) → length words ≡ 3 → texts words ≡ (get_or words 0 lost).now ∷ (get_or words 1 lost).now ∷ (get_or words 2 lost).now ∷ []
-three_texts [] h = absurd (omega arith)
-three_texts (a ∷ []) h = absurd (omega arith)
-three_texts (a ∷ b ∷ []) h = absurd (omega arith)
-three_texts (a ∷ b ∷ c ∷ []) h = refl
-three_texts (a ∷ b ∷ c ∷ d ∷ ws) h = absurd (omega arith)
-
 pub two_and_more : (words : List (Bor (List ℕ))) → 2 ≤ length words
     → texts words ≡ (get_or words 0 lost).now ∷ (get_or words 1 lost).now ∷ texts (take (length words - 2) (drop 2 words))
 two_and_more [] h = absurd (omega arith)

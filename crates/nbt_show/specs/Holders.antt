@@ -1,9 +1,10 @@
 -- What is printed of a reply that says who holds a name (RFC 1002 sections 4.2.13 and 4.2.14; the words are our profile's).
-use Rattle.std.specs.Prelude.{◌≡◌, ℕ, Bool, true, false, List, [], ◌++◌, slice_index, codes}
+use Rattle.std.specs.Prelude.{◌≡◌, ℕ, Bool, true, false, List, [], ◌++◌, codes}
 use Rattle.std.specs.Fmt.{decimal}
 use Rattle.nbt_name.specs.declared.addr.Kind.{Kind}
 use Rattle.nbt_name.specs.declared.addr.Kind.TheVariants.{Unique, Group}
 use Rattle.nbt_packet.specs.Message.{kind_in}
+use Rattle.nbt_text.specs.Address.{entry_address}
 use Rattle.nbt_text.specs.Lines.{newline}
 use Rattle.nbt_show.specs.Rcodes.{rcode_words}
 
@@ -12,13 +13,9 @@ abbrev pub kind_word : Kind → List ℕ
 kind_word Unique = codes "unique"
 kind_word Group = codes "group"
 
--- the address of an entry of six octets, as `192.0.2.7`
-abbrev pub dotted : List ℕ → List ℕ
-dotted e = decimal (slice_index e 2) ++ codes "." ++ decimal (slice_index e 3) ++ codes "." ++ decimal (slice_index e 4) ++ codes "." ++ decimal (slice_index e 5)
-
 -- its line, as `192.0.2.7 unique`: of NB_FLAGS only G is looked at
 abbrev pub entry_line : List ℕ → List ℕ
-entry_line e = dotted e ++ codes " " ++ kind_word (kind_in e) ++ newline
+entry_line e = entry_address e ++ codes " " ++ kind_word (kind_in e) ++ newline
 
 abbrev pub IsEntryLine : List ℕ → List ℕ → Type 0
 IsEntryLine entry line = line ≡ entry_line entry

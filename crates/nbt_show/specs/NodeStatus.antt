@@ -1,11 +1,11 @@
 -- What is printed of a status reply: a node's names, and its unit id (RFC 1002 section 4.2.18; the words are our profile's).
 use Rattle.std.specs.Prelude.{◌≡◌, ℕ, ◌/◌, ◌%◌, nat_eq, nat_lt, ◌||◌, if◌then◌else◌, List, [], ◌∷◌, ◌++◌, take, replicate, length, slice_index, codes}
 use Rattle.std.specs.Str.{bytes_eq}
-use Rattle.hex.specs.Hex.{encode_lower}
 use Rattle.nbt_packet.specs.Message.{kind_in}
 use Rattle.nbt_text.specs.SuffixedNames.{PrintsOctets}
 use Rattle.nbt_text.specs.Suffixes.{words_of}
 use Rattle.nbt_text.specs.Lines.{newline}
+use Rattle.nbt_text.specs.UnitIds.{unit_digits}
 use Rattle.nbt_show.specs.Holders.{kind_word}
 
 -- ---- a name of eighteen octets: the sixteen, and NAME_FLAGS
@@ -32,14 +32,9 @@ IsNameLine name line = (word : List ℕ) × PrintsOctets (take 16 name) word × 
 
 -- ---- the statistics after the names, of which the unit id is the first six octets
 
--- an octet after a colon
-abbrev pub pair : ℕ → List ℕ
-pair octet = codes ":" ++ encode_lower (octet ∷ [])
-
 -- as `unit id 00:50:56:c0:00:08`
 abbrev pub unit_line : List ℕ → List ℕ
-unit_line unit = codes "unit id " ++ encode_lower (slice_index unit 0 ∷ []) ++ pair (slice_index unit 1) ++ pair (slice_index unit 2) ++ pair (slice_index unit 3)
-    ++ pair (slice_index unit 4) ++ pair (slice_index unit 5) ++ newline
+unit_line unit = codes "unit id " ++ unit_digits unit ++ newline
 
 -- its line, where it is there and isn't zero
 abbrev pub unit_text : (statistics : List ℕ) → List ℕ

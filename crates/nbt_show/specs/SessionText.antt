@@ -1,5 +1,5 @@
 -- What is printed of the octets of a session's stream (our profile).
-use Rattle.std.specs.Prelude.{ℕ, List, [], ◌∷◌, ◌++◌, Bool, true, false, length, codes}
+use Rattle.std.specs.Prelude.{ℕ, List, ◌++◌, Bool, true, false, length, codes}
 use Rattle.std.specs.Fmt.{decimal}
 use Rattle.nbt_name.specs.declared.addr.Addr.{Addr}
 use Rattle.nbt_name.specs.Wire.{NameValue}
@@ -12,6 +12,7 @@ use Rattle.nbt_show.specs.DgramText.{two_digits}
 use Rattle.nbt_text.specs.NameText.{PrintsName}
 use Rattle.nbt_show.specs.PacketText.{data_text}
 use Rattle.nbt_text.specs.Lines.{newline}
+use Rattle.nbt_text.specs.Texts.{PrintsEach}
 use Rattle.nbt_show.specs.declared.session_packet.Whole.{Whole}
 use Rattle.nbt_show.specs.declared.session_packet.Whole.TheVariants as wholes
 
@@ -37,12 +38,6 @@ pub data PrintsPacketLine : PacketValue → List ℕ → Type 0 where
   of_negative : (code : ℕ) → PrintsPacketLine (negative code) (codes "negative " ++ two_digits code ++ newline)
   of_retarget : (to : Addr) → PrintsPacketLine (retarget to) (codes "retarget " ++ address_text to ++ newline)
   of_keep_alive : PrintsPacketLine keep_alive (codes "keep-alive" ++ newline)
-
--- Packets have their lines, one after the other, each as this relation has it.
-pub data PrintsEach (PrintsOne : PacketValue → List ℕ → Type 0) : List PacketValue → List ℕ → Type 0 where
-  no_packets : PrintsEach PrintsOne [] []
-  one_packet : (packet : PacketValue) (packets : List PacketValue) (lines others : List ℕ) → PrintsOne packet lines
-      → PrintsEach PrintsOne packets others → PrintsEach PrintsOne (packet ∷ packets) (lines ++ others)
 
 abbrev pub rest_line : List ℕ → List ℕ
 rest_line rest = codes "rest " ++ decimal (length rest) ++ newline

@@ -3,11 +3,12 @@
 ghost use Rattle.std.specs.Prelude.{◌≡◌, ◌++◌, [], ◌∷◌, ℕ, List, OnOk};
 ghost use Rattle.std.specs.String.{string_bytes};
 ghost use Rattle.nbt_packet.specs.Message.{kind_in};
-ghost use Rattle.nbt_show.specs.Holders.{kind_word, dotted, entry_line, IsEntryLine, cut_text, not_found_text};
+ghost use Rattle.nbt_show.specs.Holders.{kind_word, entry_line, IsEntryLine, cut_text, not_found_text};
 ghost use Rattle.nbt_show.specs.Rows.{PrintsRows};
 
 use crate::rcode::rcode_words;
 use nbt_name::Kind;
+use nbt_text::write_entry_address;
 use std::alloc::AllocError;
 
 /// G in the first octet of NB_FLAGS and of NAME_FLAGS (RFC 1002 sections 4.2.2 and 4.2.18).
@@ -38,17 +39,9 @@ fn write_entries(entries: &[u8], out: &mut String) -> Result<(), AllocError>
 fn write_entry(entry: &[u8; 6], out: &mut String) -> Result<(), AllocError>
     ensures { OnOk result (string_bytes out.new ≡ string_bytes out.old ++ entry_line entry.now) }
 {
-    write_dotted(entry, out)?;
+    write_entry_address(entry, out)?;
     let word = kind_word(kind_of(entry[0]));
     writeln!(out, " {word}")
-}
-
-/// Appends the address of an entry as `192.0.2.7`: the four octets after its two of flags (RFC 1002 section 4.2.13).
-pub fn write_dotted(entry: &[u8; 6], out: &mut String) -> Result<(), AllocError>
-    ensures { OnOk result (string_bytes out.new ≡ string_bytes out.old ++ dotted entry.now) }
-{
-    let [_, _, a, b, c, d] = *entry;
-    write!(out, "{a}.{b}.{c}.{d}")
 }
 
 /// Who may hold a name with these flags, by G in the first octet of NB_FLAGS or of NAME_FLAGS (RFC 1002 sections 4.2.2 and

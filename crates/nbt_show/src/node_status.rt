@@ -2,11 +2,11 @@
 
 ghost use Rattle.std.specs.Prelude.{◌≡◌, ℕ, List, [], ◌∷◌, ◌++◌, OnOk, if◌then◌else◌};
 ghost use Rattle.std.specs.String.{string_bytes};
-ghost use Rattle.nbt_show.specs.NodeStatus.{flag_words, meaning, after_word, IsNameLine, pair, unit_line, unit_text};
+ghost use Rattle.nbt_show.specs.NodeStatus.{flag_words, meaning, after_word, IsNameLine, unit_line, unit_text};
 ghost use Rattle.nbt_show.specs.Rows.{PrintsRows};
 
 use crate::holders::{kind_of, kind_word};
-use nbt_text::{suffix_words, write_hexadecimal, write_octets};
+use nbt_text::{suffix_words, write_octets, write_unit_id};
 use std::alloc::AllocError;
 
 /// Appends a line for each name, and one for the unit id, where it is there and isn't zero.
@@ -15,7 +15,7 @@ pub fn write_names(names: &[u8], statistics: &[u8], out: &mut String) -> Result<
         × (string_bytes out.new ≡ string_bytes out.old ++ (lines ++ unit_text statistics.now))) }
 {
     write_lines(names, out)?;
-    write_unit_id(statistics, out)
+    write_unit_line(statistics, out)
 }
 
 /// Appends a line for each name.
@@ -24,14 +24,14 @@ fn write_lines(names: &[u8], out: &mut String) -> Result<(), AllocError>
 {
     let mut rest = names;
     'names: while let Some((name, others)) = rest.split_first_chunk::<18>() {
-        write_line(name, out)?;
+        write_name_line(name, out)?;
         rest = others;
     }
     Ok(())
 }
 
-/// Appends the line of a name: of its sixteen octets, and of NAME_FLAGS.
-fn write_line(name: &[u8; 18], out: &mut String) -> Result<(), AllocError>
+/// Appends the line of a name, as `FILER#20 unique active  file server`: of its sixteen octets, and of NAME_FLAGS.
+pub fn write_name_line(name: &[u8; 18], out: &mut String) -> Result<(), AllocError>
     ensures { OnOk result ((line : List ℕ) × IsNameLine name.now line × (string_bytes out.new ≡ string_bytes out.old ++ line)) }
 {
     let octets = name.first_chunk::<16>().unwrap();
@@ -83,33 +83,20 @@ fn write_meaning(words: &str, out: &mut String) -> Result<(), AllocError>
 
 /// Appends the line of the unit id, the first six octets of the statistics, where it is there and isn't zero: `unit id` and
 /// pairs of digits with colons between (RFC 1002 section 4.2.18; the words are our profile's).
-pub fn write_unit_id(statistics: &[u8], out: &mut String) -> Result<(), AllocError>
+pub fn write_unit_line(statistics: &[u8], out: &mut String) -> Result<(), AllocError>
     ensures { OnOk result (string_bytes out.new ≡ string_bytes out.old ++ unit_text statistics.now) }
 {
     match statistics.first_chunk::<6>() {
-        Some(unit) if *unit != [0; 6] => write_digits(unit, out),
+        Some(unit) if *unit != [0; 6] => write_unit(unit, out),
         _ => Ok(()),
     }
 }
 
 /// Appends the line of a unit id.
-fn write_digits(unit: &[u8; 6], out: &mut String) -> Result<(), AllocError>
+fn write_unit(unit: &[u8; 6], out: &mut String) -> Result<(), AllocError>
     ensures { OnOk result (string_bytes out.new ≡ string_bytes out.old ++ unit_line unit.now) }
 {
     out.push_str("unit id ")?;
-    write_hexadecimal(&[unit[0]], out)?;
-    write_pair(unit[1], out)?;
-    write_pair(unit[2], out)?;
-    write_pair(unit[3], out)?;
-    write_pair(unit[4], out)?;
-    write_pair(unit[5], out)?;
+    write_unit_id(unit, out)?;
     out.push_str("\n")
-}
-
-/// Appends an octet after a colon, in two digits.
-fn write_pair(octet: u8, out: &mut String) -> Result<(), AllocError>
-    ensures { OnOk result (string_bytes out.new ≡ string_bytes out.old ++ pair octet) }
-{
-    out.push_str(":")?;
-    write_hexadecimal(&[octet], out)
 }

@@ -66,8 +66,8 @@ fn write_message(
     }
 }
 
-/// What stands after the names in the answer's RDATA, if anything.
-fn statistics_of<'a>(packet: &Packet<'a>, names: &[u8]) -> &'a [u8]
+/// What stands after the names in RDATA of a node status response, if anything.
+pub fn statistics_of<'a>(packet: &Packet<'a>, names: &[u8]) -> &'a [u8]
     ensures { (answer : RecordValue) → (packet_of packet.now).answer ≡ Some answer → result.now ≡ drop (1 + length names.now) answer.rdata }
 {
     match &packet.answer {

@@ -1,15 +1,11 @@
 -- Digits in hexadecimal, and what is known of an option.
-use Rattle.std.proofs.Common.{◌≡◌, ℕ, ◌*◌, ◌<◌, ◌^◌, List, [], ◌∷◌, length, Option, Some, None, Result, Ok, Err, sym, ◌∙◌, ap, refl, subst, arith}
+use Rattle.std.proofs.Common.{◌≡◌, ℕ, ◌*◌, ◌<◌, ◌^◌, List, length, Option, Some, None, Result, Ok, Err, sym, ◌∙◌, ap, refl, subst, arith}
 use Rattle.std.specs.Prelude.{◌↔◌, IfOk, IfErr, IfSome, IfNone}
 use Rattle.std.specs.Option.{SomeIff}
 use Rattle.std.specs.Result.{result_ok}
 use Rattle.hex.specs.Hex.{decode_of, decode_sized}
 use Rattle.hex.specs.declared.error.FromHexError.{FromHexError}
 use Rattle.hex.proofs.HexLemmas.{decode_of-ok, decode_sized-twice}
-use Rattle.nbt_text.specs.declared.casing.Case.{Case}
-use Rattle.nbt_text.specs.declared.casing.Case.TheVariants.{Folded, Exact}
-use Rattle.nbt_text.specs.SuffixedNames.{cased}
-use Rattle.nbt_text.specs.ScopedNames.{dotted}
 
 pub if_none : {A : Type 0} (P : Type 0) (r : Option A) → (r ≡ None → P) → IfNone r P
 if_none P None h = h refl
@@ -30,17 +26,7 @@ not_sized digits bytes n r x e f none d len =
     let found : x ≡ Some bytes = f ∙ ap result_ok ok in
     absurd cc
 
--- ---- the text of a name with a scope
-
-pub whole_empty : (case : Case) (text : List ℕ) → length text ≡ 0 → 65 ∷ [] ≡ 65 ∷ dotted (cased case text)
-whole_empty Folded [] e = refl
-whole_empty Exact [] e = refl
-whole_empty case (x ∷ text) e = absurd (omega arith)
-
-pub whole_filled : (case : Case) (text : List ℕ) → (length text ≡ 0 → ⊥) → cased case (65 ∷ 46 ∷ text) ≡ 65 ∷ dotted (cased case text)
-whole_filled case [] e = absurd (e refl)
-whole_filled Folded (x ∷ text) e = refl
-whole_filled Exact (x ∷ text) e = refl
+-- ---- what is known of an option
 
 pub IfSome-map : {A : Type 0} (P Q : A → Type 0) (r : Option A) → IfSome r P → ((a : A) → P a → Q a) → IfSome r Q
 IfSome-map P Q None h f = tt

@@ -4,6 +4,8 @@
 pub mod Splitting
 -- texts that are written one after another
 pub mod Joining
+-- lists that are printed one after the other
+pub mod Listing
 -- decimal numbers as they are printed, and the marks between them: the text of an address
 pub mod AddressText
 -- how the parts of a name's text end, and what is left to read
@@ -18,6 +20,8 @@ pub mod Filling
 pub mod PrintedOctets
 -- a scope behind a name's suffix
 pub mod ScopedWords
+-- a text that is read in two steps: what it spells, and whether that is taken
+pub mod Taking
 -- digits in hexadecimal, and what is known of an option
 pub mod Deciding
 -- the digits of a time, and the colon of an address

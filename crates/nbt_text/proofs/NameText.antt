@@ -8,10 +8,7 @@ use Rattle.std.specs.Result.{result_ok}
 use Rattle.hex.specs.Hex.{decode_of, decode_sized, is_hex_digit}
 use Rattle.hex.specs.declared.error.FromHexError.{FromHexError}
 use Rattle.hex.proofs.HexLemmas.{decode_of-ok, decode_of-same, decode_sized-ok, decode_sized-twice}
-use Rattle.nbt_name.specs.Scope.{IsScope}
-use Rattle.nbt_name.specs.declared.fault.NameFault.{NameFault}
-use Rattle.nbt_name.specs.Wire.{NameValue, IsName, AreOctets, name_of, wire}
-use Rattle.nbt_name.specs.Reading.{PlainNameAt}
+use Rattle.nbt_name.specs.Wire.{NameValue, name_of}
 use Rattle.nbt_text.specs.Lines.{HasNo}
 use Rattle.nbt_text.specs.NameText.{Component, as_it_is, in_digits, Labels, no_label, label, Sixteen, filled_up, in_32_digits, SpellsName, StandsAsItIs, dot, prefix}
 
@@ -88,25 +85,6 @@ digits_spell _ xs digits (in_digits others _ d) e = let same : others ≡ digits
 pub digits_spell_sixteen : (component xs digits : List ℕ) → Sixteen component xs → component ≡ prefix ++ digits → (decode_of digits ≡ Ok xs) × (length xs ≡ 16)
 digits_spell_sixteen _ _ digits (filled_up x s h) e = absurd (s.unprefixed (digits, e))
 digits_spell_sixteen _ _ digits (in_32_digits others xs d h) e = let same : others ≡ digits = cc in (rw (← same) d, h)
-
--- ---- the name of sixteen octets and a scope
-
--- the law that a wire form is read as its name
-abbrev WireFormsAreRead : Type 0
-WireFormsAreRead = (name : NameValue) (front rest : List ℕ) → IsName name → PlainNameAt (front ++ wire name ++ rest) (length front) name (length front + length (wire name))
-
-pub name_is_read : (octets scope buffer : List ℕ) (r : Result (NameValue × ℕ) NameFault) → WireFormsAreRead → length octets ≡ 16 → length scope ≤ 221 → IsScope scope → AreOctets octets → AreOctets scope
-    → buffer ≡ wire (name_of octets scope) → ((name : NameValue) (next : ℕ) → (r ≡ Ok (name, next)) ↔ PlainNameAt buffer 0 name next) → r ≡ Ok (name_of octets scope, length buffer)
-name_is_read octets scope buffer r law sixteen fits labels octets_fit scope_fit is read =
-    let name : NameValue = name_of octets scope in
-    let is_name : IsName (name_of octets scope) = record { sixteen = sixteen; fits = fits; labels = labels; octets_fit = octets_fit; scope_fits = scope_fit } in
-    let stands = law (name_of octets scope) [] [] is_name in
-    let buffer_is : buffer ≡ wire (name_of octets scope) ++ [] = is ∙ sym (append-nil (wire (name_of octets scope))) in
-    let sum : length {A = ℕ} [] + length (wire (name_of octets scope)) ≡ length (wire (name_of octets scope)) = omega arith in
-    let stands_so : PlainNameAt (wire (name_of octets scope) ++ []) 0 (name_of octets scope) (length (wire (name_of octets scope))) =
-    subst (λ (n : ℕ). PlainNameAt (wire (name_of octets scope) ++ []) 0 (name_of octets scope) n) sum stands in
-    let here : PlainNameAt buffer 0 (name_of octets scope) (length (wire (name_of octets scope))) = rw buffer_is stands_so in
-    rw (ap length is) ((read (name_of octets scope) (length (wire (name_of octets scope)))).1 here)
 
 -- ---- what is left to read
 

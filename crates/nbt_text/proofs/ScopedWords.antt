@@ -14,7 +14,7 @@ use Rattle.nbt_text.specs.declared.casing.Case.{Case}
 use Rattle.nbt_text.specs.declared.casing.Case.TheVariants.{Folded, Exact}
 use Rattle.nbt_text.specs.declared.fault.Fault.{Fault}
 use Rattle.nbt_text.specs.SuffixedNames.{fifteen, SpellsOctets, PrintsOctets, in_capitals, in_hexadecimal}
-use Rattle.nbt_text.specs.ScopedNames.{dotted, SpellsScope, SpellsName, IsOpened, at_mark, in_digits, MisspellsName, HasNoScope, HasScope, SpellsOwnScope, SpellsBehind, MisspellsBehind, SpellsScopedName, apart, behind, MisspellsScopedName, bad_apart, bad_behind}
+use Rattle.nbt_text.specs.ScopedNames.{PrintsWord, dotted, SpellsScope, SpellsName, IsOpened, at_mark, in_digits, MisspellsName, HasNoScope, HasScope, SpellsOwnScope, SpellsBehind, MisspellsBehind, SpellsScopedName, apart, behind, MisspellsScopedName, bad_apart, bad_behind}
 use Rattle.nbt_text.proofs.NameText.{HasNo-cons, HasNo-prefixed, digit_no_dot, take_front}
 use Rattle.nbt_text.proofs.PrintedNames.{AreOctets-front, AreOctets-back, labels_spelled}
 use Rattle.nbt_text.proofs.PrintedOctets.{unprefixed, last_fits, printed_spells}
@@ -173,5 +173,5 @@ read_so case name word _ _ is printed same (label_printed octets scope component
       scope = own_scope name.scope own some few (labels_spelled name.scope (dot ∷ own) mine is.scope_fits is.labels) is.fits;
     })
 
-pub printed_is_read : (case : Case) (name : NameValue) (word labels : List ℕ) → IsName name → PrintsOctets name.octets word → PrintsLabels name.scope labels → SpellsScopedName case (word ++ labels) [] name
-printed_is_read case name word labels is printed others = read_so case name word name.scope labels is printed refl others
+pub printed_is_read : (case : Case) (name : NameValue) (word : List ℕ) → IsName name → PrintsWord name word → SpellsScopedName case word [] name
+printed_is_read case name word is printed = subst (λ (w : List ℕ). SpellsScopedName case w [] name) (sym printed.word_is) (read_so case name printed.front name.scope printed.labels is printed.octets_are refl printed.labels_are)

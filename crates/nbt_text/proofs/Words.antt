@@ -1,5 +1,5 @@
 -- A word is cut in one way, and spells one row of octets or has one fault.
-use Rattle.std.proofs.Common.{◌≡◌, ◌≢◌, ℕ, ◌⊎◌, List, [], ◌∷◌, ◌++◌, Ok, sym, ◌∙◌, ap, refl, subst, inl, inr, arith, suc}
+use Rattle.std.proofs.Common.{◌≡◌, ℕ, ◌⊎◌, List, [], ◌∷◌, ◌++◌, Ok, sym, ◌∙◌, ap, refl, subst, inl, inr, arith, suc}
 use Rattle.std.specs.Prelude.{slice_index}
 use Rattle.std.proofs.lemmas.Bool.{cases_order}
 use Rattle.std.proofs.lemmas.List.{append_cancel_left, append_cancel_right}
@@ -64,15 +64,6 @@ suffix_is_one usual tail a b (left_out none is) (after_hash digits e d) = absurd
 suffix_is_one usual tail a b (left_out none is) (in_brackets digits e d) = absurd cc
 suffix_is_one usual tail a b (after_hash digits e d) other = one_octet digits digits a b d (hash_suffix usual tail digits b other e) refl
 suffix_is_one usual tail a b (in_brackets digits e d) other = one_octet digits digits a b d (bracket_suffix usual tail digits b other e) refl
-
--- what is neither
-pub no_suffix : (usual mark : ℕ) (tail rest : List ℕ) (a : ℕ) → tail ≡ mark ∷ rest → mark ≢ 0x23 → (mark ≡ 0x3C → (digits : List ℕ) → rest ≢ digits ++ 0x3E ∷ []) → ¬ IsSuffix usual tail a
-no_suffix usual mark tail rest a e other none (left_out empty is) = absurd cc
-no_suffix usual mark tail rest a e other none (after_hash digits is d) = other (heads mark 0x23 rest digits (sym e ∙ is))
-no_suffix usual mark tail rest a e other none (in_brackets digits is d) =
-    let whole : mark ∷ rest ≡ 0x3C ∷ (digits ++ 0x3E ∷ []) = sym e ∙ is in
-    let behind : rest ≡ digits ++ 0x3E ∷ [] = cc in
-    none (heads mark 0x3C rest (digits ++ 0x3E ∷ []) whole) digits behind
 
 -- ---- characters
 

@@ -1,5 +1,5 @@
 -- An address as text (our profile).
-use Rattle.std.specs.Prelude.{◌≡◌, ℕ, ◌/◌, ◌%◌, ◌^◌, ◌<◌, ◌⊎◌, List, ◌++◌, codes}
+use Rattle.std.specs.Prelude.{◌≡◌, ℕ, ◌/◌, ◌%◌, ◌^◌, ◌<◌, ◌⊎◌, List, ◌++◌, slice_index, codes}
 use Rattle.std.specs.Fmt.{decimal}
 use Rattle.nbt_name.specs.declared.addr.Addr.{Addr}
 use Rattle.nbt_text.specs.Lines.{HasNo}
@@ -8,6 +8,11 @@ use Rattle.nbt_text.specs.Lines.{HasNo}
 abbrev pub dotted : ℕ → List ℕ
 dotted ip = decimal (ip / 2 ^ 24) ++ codes "." ++ decimal (ip / 2 ^ 16 % 256) ++ codes "." ++ decimal (ip / 2 ^ 8 % 256)
     ++ codes "." ++ decimal (ip % 256)
+
+-- the address of an entry of six octets, behind its two of flags (RFC 1002 section 4.2.13)
+abbrev pub entry_address : List ℕ → List ℕ
+entry_address e = decimal (slice_index e 2) ++ codes "." ++ decimal (slice_index e 3) ++ codes "." ++ decimal (slice_index e 4)
+    ++ codes "." ++ decimal (slice_index e 5)
 
 -- the text of an address, as in 10.0.0.1:137
 abbrev pub address_text : Addr → List ℕ

@@ -1,5 +1,6 @@
 pub mod Address
 pub mod Faults
+pub mod HostNames
 pub mod Inner
 pub mod Lines
 pub mod NameText
@@ -9,3 +10,4 @@ pub mod Suffixes
 pub mod SuffixedNames
 pub mod Texts
 pub mod Times
+pub mod UnitIds

@@ -2,12 +2,12 @@
 use Rattle.std.specs.Prelude.{◌≡◌, ◌≢◌, ℕ, ◌≤◌, List, [], ◌∷◌, ◌++◌, length, codes}
 use Rattle.nbt_name.specs.Wire.{NameValue, name_of}
 use Rattle.nbt_text.specs.Lines.{HasNo}
-use Rattle.nbt_text.specs.NameText.{dot, IsPrefixed, SpellsName as TextSpellsName}
+use Rattle.nbt_text.specs.NameText.{dot, IsPrefixed, SpellsName as TextSpellsName, PrintsLabels}
 use Rattle.nbt_text.specs.declared.casing.Case.{Case}
 use Rattle.nbt_text.specs.declared.casing.Case.TheVariants.{Exact}
 use Rattle.nbt_text.specs.declared.fault.Fault.{Fault}
 use Rattle.nbt_text.specs.declared.fault.Fault.TheVariants as f
-use Rattle.nbt_text.specs.SuffixedNames.{cased, IsMark, IsCutAt, SpellsOctets, Misspells}
+use Rattle.nbt_text.specs.SuffixedNames.{cased, IsMark, IsCutAt, SpellsOctets, Misspells, PrintsOctets}
 
 -- no scope, or a dot and its text
 abbrev pub dotted : List ℕ → List ℕ
@@ -71,3 +71,13 @@ pub data SpellsScopedName (case : Case) (word text : List ℕ) (name : NameValue
 pub data MisspellsScopedName (case : Case) (word text : List ℕ) (fault : Fault) : Type 0 where
   bad_apart : HasNoScope word → MisspellsName case word text fault → MisspellsScopedName case word text fault
   bad_behind : (bare own : List ℕ) → HasScope word bare own → MisspellsBehind case bare own fault → MisspellsScopedName case word text fault
+
+-- ---- printing
+
+-- A name as FILER#20, and behind it the labels of its scope, each after a dot, as the bench's commands print them.
+pub record PrintsWord (name : NameValue) (word : List ℕ) : Type 0 where
+  pub front : List ℕ
+  pub labels : List ℕ
+  pub octets_are : PrintsOctets name.octets front
+  pub labels_are : PrintsLabels name.scope labels
+  pub word_is : word ≡ front ++ labels

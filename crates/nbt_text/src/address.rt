@@ -4,7 +4,7 @@ ghost use Rattle.std.specs.Prelude.{◌≡◌, ℕ, ◌+◌, ◌*◌, ◌<◌, �
 ghost use Rattle.std.specs.Fmt.{decimal};
 ghost use Rattle.std.specs.String.{string_bytes};
 ghost use Rattle.nbt_name.specs.declared.addr.Addr.{Addr as End};
-ghost use Rattle.nbt_text.specs.Address.{SpellsAddress, SpellsEnd, SpellsSource, address_text};
+ghost use Rattle.nbt_text.specs.Address.{SpellsAddress, SpellsUsual, SpellsEnd, SpellsSource, address_text, dotted, entry_address};
 
 use crate::pieces::split_at_first;
 use nbt_name::Addr;
@@ -30,14 +30,7 @@ pub fn parse_address(text: &str) -> Option<Addr>
 pub fn read_address(alloc: Global, text: &str) -> Result<Option<Addr>, AllocError>
     ensures { IfOk result (λ found. (address : End) → (found ≡ Some address) ↔ SpellsEnd text.now address) }
 {
-    let (_, port) = split_at_first(b':', text.as_bytes());
-    match port {
-        Some(_) => Ok(parse_address(text)),
-        None => {
-            let whole = format!(in alloc; "{text}:137")?;
-            Ok(parse_address(whole.as_str()))
-        }
-    }
+    read_usual(alloc, text, ":137")
 }
 
 /// Reads `A.B.C.D:PORT`, or `A.B.C.D`, which is at port 0: the address from which requests are sent, for which the system chooses the port.
@@ -45,11 +38,18 @@ pub fn read_address(alloc: Global, text: &str) -> Result<Option<Addr>, AllocErro
 pub fn read_source(alloc: Global, text: &str) -> Result<Option<Addr>, AllocError>
     ensures { IfOk result (λ found. (address : End) → (found ≡ Some address) ↔ SpellsSource text.now address) }
 {
+    read_usual(alloc, text, ":0")
+}
+
+/// Reads `A.B.C.D:PORT`, or `A.B.C.D`, behind which the usual port then stands, after its colon.
+fn read_usual(alloc: Global, text: &str, usual: &str) -> Result<Option<Addr>, AllocError>
+    ensures { IfOk result (λ found. (address : End) → (found ≡ Some address) ↔ SpellsUsual usual.now text.now address) }
+{
     let (_, port) = split_at_first(b':', text.as_bytes());
     match port {
         Some(_) => Ok(parse_address(text)),
         None => {
-            let whole = format!(in alloc; "{text}:0")?;
+            let whole = format!(in alloc; "{text}{usual}")?;
             Ok(parse_address(whole.as_str()))
         }
     }
@@ -59,12 +59,28 @@ pub fn read_source(alloc: Global, text: &str) -> Result<Option<Addr>, AllocError
 pub fn write_address(address: Addr, out: &mut String) -> Result<(), AllocError>
     ensures { OnOk result (string_bytes out.new ≡ string_bytes out.old ++ address_text address) }
 {
-    let first = address.ip / 0x0100_0000;
-    let second = address.ip / 0x0001_0000 % 256;
-    let third = address.ip / 0x0100 % 256;
-    let fourth = address.ip % 256;
+    write_dotted(address.ip, out)?;
     let port = address.port;
-    write!(out, "{first}.{second}.{third}.{fourth}:{port}")
+    write!(out, ":{port}")
+}
+
+/// Appends a 32-bit address as `192.0.2.7`.
+pub fn write_dotted(ip: u32, out: &mut String) -> Result<(), AllocError>
+    ensures { OnOk result (string_bytes out.new ≡ string_bytes out.old ++ dotted ip) }
+{
+    let first = ip / 0x0100_0000;
+    let second = ip / 0x0001_0000 % 256;
+    let third = ip / 0x0100 % 256;
+    let fourth = ip % 256;
+    write!(out, "{first}.{second}.{third}.{fourth}")
+}
+
+/// Appends the address of an entry as `192.0.2.7`: the four octets after its two of flags (RFC 1002 section 4.2.13).
+pub fn write_entry_address(entry: &[u8; 6], out: &mut String) -> Result<(), AllocError>
+    ensures { OnOk result (string_bytes out.new ≡ string_bytes out.old ++ entry_address entry.now) }
+{
+    let [_, _, a, b, c, d] = *entry;
+    write!(out, "{a}.{b}.{c}.{d}")
 }
 
 /// The octets as one number, the first one highest.

@@ -1,11 +1,11 @@
 //! Times with their units.
 
-ghost use Rattle.std.specs.Prelude.{◌≡◌, ◌↔◌, ℕ, Some, IsTrue};
+ghost use Rattle.std.specs.Prelude.{◌≡◌, ◌↔◌, ◌≤◌, ℕ, Some, IsTrue, IfSome, IfNone};
 ghost use Rattle.nbt_text.specs.SuffixedNames.{IsCutAt};
 ghost use Rattle.nbt_text.specs.Inner.Blanks.{IsNoDigit};
 ghost use Rattle.nbt_text.specs.Times.{IsUnit, SpellsTime};
 
-use crate::number::parse_number;
+use crate::number::{between, parse_number};
 
 /// The milliseconds of a second, and of a minute.
 const SECOND: u64 = 1_000;
@@ -19,6 +19,17 @@ pub fn read_duration(text: &[u8]) -> Option<u64>
     let (digits, unit) = digits_before(text);
     let each = unit_of(unit)?;
     parse_number(digits)?.checked_mul(each)
+}
+
+/// Reads a time, as [`read_duration`] does, of at least `least` ms and at most `most` ms.
+pub fn duration_within(text: &str, least: u64, most: u64) -> Option<u64>
+    ensures read { IfSome result (λ time. SpellsTime text.now time × ((least ≤ time) × (time ≤ most))) }
+    ensures none { IfNone result ((time : ℕ) → ¬ (SpellsTime text.now time × ((least ≤ time) × (time ≤ most)))) }
+{
+    match read_duration(text.as_bytes()) {
+        Some(time) => between(time, least, most),
+        None => None,
+    }
 }
 
 /// The digits that a text begins with, and the rest.

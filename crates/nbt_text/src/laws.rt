@@ -1,11 +1,11 @@
 //! What holds of texts, whatever the code does: laws over the definitions alone.
 
-ghost use Rattle.std.specs.Prelude.{◌≡◌, ℕ, List, [], ◌++◌, length};
+ghost use Rattle.std.specs.Prelude.{◌≡◌, ℕ, List, [], length};
 ghost use Rattle.nbt_name.specs.Wire.{AreOctets, NameValue, IsName};
 ghost use Rattle.nbt_text.specs.declared.casing.Case.{Case};
 ghost use Rattle.nbt_text.specs.declared.fault.Fault.{Fault};
-ghost use Rattle.nbt_text.specs.NameText.{PrintsName, PrintsLabels, SpellsName};
-ghost use Rattle.nbt_text.specs.ScopedNames.{SpellsScopedName};
+ghost use Rattle.nbt_text.specs.NameText.{PrintsName, SpellsName};
+ghost use Rattle.nbt_text.specs.ScopedNames.{PrintsWord, SpellsScopedName};
 ghost use Rattle.nbt_text.specs.SuffixedNames.{SpellsOctets, Misspells, PrintsOctets};
 
 /// What is printed of a name is read as that name.
@@ -25,8 +25,7 @@ pub fn printed_octets_are_read()
     ensures { (case : Case) (octets word : List ℕ) → length octets ≡ 16 → AreOctets octets → PrintsOctets octets word → SpellsOctets case word octets }
 {}
 
-/// What is printed of a name and, behind it, of its scope is read as that name, whether letters are folded or not.
+/// What is printed of a name, with its scope behind it, is read as that name, whether letters are folded or not.
 pub fn printed_scoped_name_is_read()
-    ensures { (case : Case) (name : NameValue) (word labels : List ℕ) → IsName name → PrintsOctets name.octets word → PrintsLabels name.scope labels
-        → SpellsScopedName case (word ++ labels) [] name }
+    ensures { (case : Case) (name : NameValue) (word : List ℕ) → IsName name → PrintsWord name word → SpellsScopedName case word [] name }
 {}

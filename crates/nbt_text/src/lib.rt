@@ -11,6 +11,7 @@ mod casing;
 mod duration;
 mod fault;
 mod hexadecimal;
+mod host_name;
 pub mod laws;
 mod lines;
 mod name_text;
@@ -21,18 +22,25 @@ mod scoped_word;
 mod suffix;
 mod suffixed_printing;
 mod suffixed_reading;
+mod unit_id;
+mod word;
 
-pub use address::{parse_address, read_address, read_source, write_address};
+pub use address::{
+    parse_address, read_address, read_source, write_address, write_dotted, write_entry_address,
+};
 pub use casing::Case;
-pub use duration::read_duration;
+pub use duration::{duration_within, read_duration};
 pub use fault::Fault;
 pub use hexadecimal::write_hexadecimal;
+pub use host_name::{is_host_name, write_host};
 pub use lines::{NEWLINE, end_line, lines_of, octets_of, words_of, words_said};
 pub use name_text::{digits_of, parse_name, stands_as_it_is, with_octets, write_name};
-pub use number::parse_number;
+pub use number::{number_within, parse_number};
 pub use pieces::split_at_first;
 pub use scoped_name::read_name;
 pub use scoped_word::read_scoped_name;
 pub use suffix::suffix_words;
-pub use suffixed_printing::{front_of, write_octets};
+pub use suffixed_printing::{front_of, write_characters, write_octets};
 pub use suffixed_reading::read_octets;
+pub use unit_id::write_unit_id;
+pub use word::write_word;

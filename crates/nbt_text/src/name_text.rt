@@ -8,7 +8,7 @@ ghost use Rattle.std.specs.Prelude.{◌≡◌, ℕ, ◌+◌, ◌<◌, ◌≤◌,
 ghost use Rattle.std.specs.String.{string_bytes};
 ghost use Rattle.nbt_name.specs.Scope.{IsScope};
 ghost use Rattle.nbt_name.specs.Wire.{NameValue, name_of};
-ghost use Rattle.nbt_text.specs.NameText.{Component, IsPlain, IsPrefixed, IsTrimmed, PrintsName, PrintsComponent, Sixteen, SpellsName, StandsAsItIs, prefix};
+ghost use Rattle.nbt_text.specs.NameText.{Component, IsPlain, IsPrefixed, IsTrimmed, PrintsName, PrintsComponent, PrintsLabels, Sixteen, SpellsName, StandsAsItIs, prefix};
 
 use crate::hexadecimal::write_hexadecimal;
 use crate::pieces::split_at_first;
@@ -50,7 +50,17 @@ pub fn write_name(name: &Name, out: &mut String) -> Result<(), AllocError>
 {
     let octets = name.octets().as_slice();
     write_component(without_spaces(octets), octets, out)?;
-    let mut rest = name.scope();
+    write_labels(name.scope(), out)
+}
+
+/// Appends the labels of a scope, each after a dot. One that can't be read back as it stands is printed as `hex:` and
+/// lower-case digits.
+pub(crate) fn write_labels(scope: &[u8], out: &mut String) -> Result<(), AllocError>
+    requires { IsScope scope.now }
+    ensures { OnOk result ((text : List ℕ) × PrintsLabels scope.now text
+        × (string_bytes out.new ≡ string_bytes out.old ++ text)) }
+{
+    let mut rest = scope;
     'labels: while let Some((&count, labels)) = rest.split_first() {
         let (label, others) = labels.split_at(usize::from(count));
         out.push('.')?;

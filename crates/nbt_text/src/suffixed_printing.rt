@@ -34,12 +34,21 @@ fn write_front(front: &[u8], suffix: u8, out: &mut String) -> Result<(), AllocEr
     requires { IsSeen front.now }
     ensures { OnOk result (string_bytes out.new ≡ string_bytes out.old ++ (front.now ++ 0x23 ∷ encode_upper (suffix ∷ []))) }
 {
-    for octet in front {
-        out.push(char::from(*octet))?;
-    }
+    write_characters(front, out)?;
     out.push('#')?;
     let digits = hex::encode_upper(*out.allocator(), [suffix].as_slice())?;
     out.push_str(digits.as_str())
+}
+
+/// Appends characters that [`front_of`] found as they stand.
+pub fn write_characters(front: &[u8], out: &mut String) -> Result<(), AllocError>
+    requires { IsSeen front.now }
+    ensures { OnOk result (string_bytes out.new ≡ string_bytes out.old ++ front.now) }
+{
+    for octet in front {
+        out.push(char::from(*octet))?;
+    }
+    Ok(())
 }
 
 /// The characters before the suffix, where `write_octets` prints the octets as characters; `None` where it prints digits.

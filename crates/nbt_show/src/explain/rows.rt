@@ -2,10 +2,10 @@
 
 use crate::explain::naming::write_in_brackets;
 use crate::explain::words::node_word;
-use crate::holders::{kind_of, kind_word, write_dotted};
-use crate::node_status::{write_name_flags, write_unit_id};
+use crate::holders::{kind_of, kind_word};
+use crate::node_status::{write_name_flags, write_unit_line};
 use nbt_packet::Record;
-use nbt_text::{suffix_words, write_octets};
+use nbt_text::{suffix_words, write_entry_address, write_octets};
 use std::alloc::AllocError;
 
 /// Type NB, a name's entries (RFC 1002 section 4.2.1.3).
@@ -32,7 +32,7 @@ fn write_entries(rdata: &[u8], out: &mut String) -> Result<(), AllocError> {
     let (entries, _) = rdata.as_chunks::<6>();
     for entry in entries {
         out.push_str("Address: ")?;
-        write_dotted(entry, out)?;
+        write_entry_address(entry, out)?;
         write_holder(entry[0], out)?;
         out.push_str("\n")?;
     }
@@ -54,7 +54,7 @@ fn write_status(rdata: &[u8], out: &mut String) -> Result<(), AllocError> {
     match rest.split_at_checked(NODE_NAME * usize::from(*count)) {
         Some((names, statistics)) => {
             write_names(names, out)?;
-            write_unit_id(statistics, out)
+            write_unit_line(statistics, out)
         }
         None => write_names(rest, out),
     }

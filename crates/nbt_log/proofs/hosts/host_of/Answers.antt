@@ -1,7 +1,8 @@
-use Rattle.std.proofs.Common.{◌≡◌, ◌∙◌, ℕ, Bool, true, List, length, sym, ap, subst, rules}
+use Rattle.std.proofs.Common.{◌≡◌, ◌∙◌, ℕ, true, List, length, sym, ap, subst, rules}
 use Rattle.std.specs.Prelude.{◌==◌}
 use Rattle.std.proofs.lemmas.Slice.Eq.{bytes_eq-Decides}
-use Rattle.nbt_log.specs.Hosts.{IsHostName, server_octets}
+use Rattle.nbt_text.specs.HostNames.{IsHostName}
+use Rattle.nbt_log.specs.Hosts.{server_octets}
 use Rattle.nbt_log.proofs.Filling.{host_is_one}
 use Rattle.nbt_log.proofs.hosts.host_of.Goals.{else-is_empty-via-then-is_empty+then-is_host_name+else-eq, else-is_empty-via-then-is_empty+else-is_host_name, else-is_empty-via-else-is_empty}
 use Rattle.nbt_log.proofs.hosts.host_of.Goals as goal

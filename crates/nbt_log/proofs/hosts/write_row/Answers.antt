@@ -1,7 +1,8 @@
 use Rattle.std.proofs.Common.{[], refl, sym, append-nil}
 use Rattle.std.specs.String.{string_bytes}
 use Rattle.nbt_text.proofs.Joining.{OnOk-map}
-use Rattle.nbt_log.specs.Hosts.{host_line, left_out, listed}
+use Rattle.nbt_text.specs.HostNames.{host_line}
+use Rattle.nbt_log.specs.Hosts.{left_out, listed}
 use Rattle.nbt_log.proofs.hosts.write_row.Goals as goal
 
 pub returns-in-Some : goal.returns-in-Some

@@ -11,7 +11,7 @@ pub returns-in-Some : goal.returns-in-Some
 returns-in-Some c =
     let front = c.in-Some.ensures.front in
     let suffix = slice_index c.args.octets.now 15 in
-    OnOk-map c.write_front.result c.write_front.ensures (λ e.
+    OnOk-map c.write_characters.result c.write_characters.ensures (λ e.
     (c.in-Some.front.now, subst (λ (octets : List ℕ). PrintsStem octets c.in-Some.front.now) (sym front.1) (in_capitals c.in-Some.front.now suffix front.0), e))
 
 pub returns-in_ok-push_str-in-None : goal.returns-in_ok-push_str-in-None

@@ -1,18 +1,26 @@
-use Rattle.std.proofs.Common.{◌∙◌}
+use Rattle.std.proofs.Common.{◌≡◌, ◌++◌, ◌∙◌, ℕ, List, [], Option, refl, sym, ap, subst, rules}
+use Rattle.std.proofs.lemmas.List.{append-nil}
 use Rattle.std.specs.String.{string_bytes}
+use Rattle.nbt_text.specs.HostNames.{IsHostName, host_line}
 use Rattle.nbt_text.proofs.Joining.{OnOk-map}
-use Rattle.nbt_scan.proofs.HostNames.{not_named, is_named}
+use Rattle.nbt_scan.specs.Cells.{PrintsName}
+use Rattle.nbt_scan.specs.Lines.{of_host, of_other}
 use Rattle.nbt_scan.proofs.hosts_line.write_hosts_line.Goals as goal
 
 pub returns-then-not-is_host_name : goal.returns-then-not-is_host_name
 returns-then-not-is_host_name c =
     let name = c.in_ok-write_name.ensures in
-    not_named c.args.ip c.args.host.now c.name_of.result (string_bytes c.new-word.result) name.0 (string_bytes c.write_name.new.out) c.as_bytes.result.now c.is_host_name.result c.name_of.ensures c.new-word.ensures.bytes name.1 name.2
-    (c.as_bytes.ensures.value ∙ c.as_str.ensures.value) c.is_host_name.ensures (string_bytes c.args.out.now) c.if-not-is_host_name.true
+    let word = name.0 in
+    let whole : c.as_bytes-host.result.now ≡ word = c.as_bytes-host.ensures.value ∙ c.as_str.ensures.value ∙ name.2 ∙ ap (λ (front : List ℕ). front ++ word) c.new-word.ensures.bytes in
+    let prints = subst (λ (n : Option (List ℕ)). PrintsName n word) c.name_of.ensures name.1 in
+    let other : ¬ IsHostName word = λ is. let named = c.is_host_name.ensures.1 (subst IsHostName (sym whole) is) in absurd (search (rules, named)) in
+    ([], of_other word prints other refl, sym (append-nil (string_bytes c.args.out.now)))
 
 pub returns : goal.returns
 returns c =
     let name = c.in_ok-write_name.ensures in
-    OnOk-map c.write_named.result c.write_named.ensures (λ e.
-    is_named c.args.ip c.args.host.now c.name_of.result (string_bytes c.new-word.result) name.0 (string_bytes c.write_name.new.out) c.as_bytes.result.now c.is_host_name.result c.name_of.ensures c.new-word.ensures.bytes name.1 name.2
-    (c.as_bytes.ensures.value ∙ c.as_str.ensures.value) c.is_host_name.ensures (string_bytes c.args.out.now) (string_bytes c.write_named.new.out) c.as_str-2.result.now c.as_str-2.ensures.value c.if-not-is_host_name.false e)
+    let word = name.0 in
+    let whole : c.as_bytes-host.result.now ≡ word = c.as_bytes-host.ensures.value ∙ c.as_str.ensures.value ∙ name.2 ∙ ap (λ (front : List ℕ). front ++ word) c.new-word.ensures.bytes in
+    let prints = subst (λ (n : Option (List ℕ)). PrintsName n word) c.name_of.ensures name.1 in
+    let is : IsHostName word = subst IsHostName whole (c.is_host_name.ensures.0 (search rules)) in
+    OnOk-map c.write_host.result c.write_host.ensures (λ e. (host_line c.args.ip word, of_host word prints is refl, e ∙ ap (λ (host : List ℕ). string_bytes c.args.out.now ++ host_line c.args.ip host) whole))

@@ -3,6 +3,3 @@ use Rattle.nbt_scan.proofs.words.last_by.Goals as goal
 
 pub returns-in-Some-clause-found : goal.returns-in-Some-clause-found
 returns-in-Some-clause-found c = (c.in-Some.number, c.in-Some.ensures.read, refl)
-
-pub returns-in-None-clause-none : goal.returns-in-None-clause-none
-returns-in-None-clause-none c = λ is. let bad = c.in-None.ensures.found is in absurd cc

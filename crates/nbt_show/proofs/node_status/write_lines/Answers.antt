@@ -7,7 +7,7 @@ use Rattle.nbt_show.proofs.node_status.write_lines.Goals as goal
 pub names-preserved : goal.names-preserved
 names-preserved c =
     let split = c.in-Some.ensures.cases in
-    let line = c.in_ok-write_line.ensures in
+    let line = c.in_ok-write_name_line.ensures in
     let before = string_bytes c.args.out.now in
     let after = string_bytes c.names.out in
     rw line.2 (next_row 18 IsNameLine c.args.names.now c.names.rest.now before after c.in-Some.name.now c.in-Some.others.now line.0 split.0 split.1 (omega (arith, split.2)) line.1 c.names.invariant)

@@ -4,7 +4,7 @@ use Rattle.nbt_name.proofs.Scopes.{IsScope-parts}
 use Rattle.std.specs.String.{string_bytes}
 use Rattle.nbt_text.specs.NameText.{PrintsLabels, label_printed, none_printed, dot}
 use Rattle.nbt_text.proofs.NameText.{nothing_left_over}
-use Rattle.nbt_log.proofs.word.write_labels.Goals as goal
+use Rattle.nbt_text.proofs.name_text.write_labels.Goals as goal
 
 pub labels-init : goal.labels-init
 labels-init c = record { is_scope = c.requires; printed = ([], sym (append-nil (string_bytes c.args.out.now)), λ more labels. labels) }
@@ -23,7 +23,7 @@ labels-preserved c =
     let labels_are : label ++ others ≡ c.in-Some.labels.now = rw (c.split_at.ensures.front, c.split_at.ensures.back) (take-append-drop c.from.result c.in-Some.labels.now) in
     let rest_is : length label ∷ label ++ others ≡ c.labels.rest.now = rw (count_is, labels_are) (sym c.in-Some.ensures.cases.0) in
     let before = c.labels.invariant.printed in
-    let component = c.in_ok-write_label.ensures in
+    let component = c.in_ok-write_component.ensures in
     let pushed : string_bytes c.push.new.self ≡ string_bytes c.labels.out ++ dot ∷ [] = c.in_ok-push.ensures.bytes ∙ ap (λ (x : List ℕ). string_bytes c.labels.out ++ x) (c.push.ensures.ascii (omega arith)) in
     record {
       is_scope = rw (c.split_at.ensures.back, c.from.ensures) parts.3;

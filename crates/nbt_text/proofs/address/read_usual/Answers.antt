@@ -1,6 +1,6 @@
 use Rattle.std.proofs.Common.{inl, inr}
 use Rattle.nbt_text.proofs.Times.{has_colon}
-use Rattle.nbt_text.proofs.address.read_source.Goals as goal
+use Rattle.nbt_text.proofs.address.read_usual.Goals as goal
 
 pub returns-in-Some : goal.returns-in-Some
 returns-in-Some c = λ address.

@@ -3,7 +3,7 @@ use Rattle.std.specs.String.{string_bytes}
 use Rattle.nbt_text.proofs.Joining.{OnOk-map}
 use Rattle.nbt_text.specs.SuffixedNames.{PrintsOctets}
 use Rattle.nbt_show.specs.NodeStatus.{after_word}
-use Rattle.nbt_show.proofs.node_status.write_line.Goals as goal
+use Rattle.nbt_show.proofs.node_status.write_name_line.Goals as goal
 
 pub returns : goal.returns
 returns c =
