@@ -1,93 +1,82 @@
--- A name server and its journal begin, over this machine.
-use Rattle.std.proofs.Common.{◌≡◌, ◌⊎◌, ℕ, List, [], Option, Some, refl, subst, inl, inr}
-use Rattle.std.specs.Io.KnownBytes.{Appends}
-use Rattle.nbt_name.specs.declared.addr.Addr.{Addr}
+-- A name server begins over this machine, with a state or without one.
+use Rattle.std.proofs.Common.{◌≡◌, ◌⊎◌, ℕ, Bool, false, List, [], Option, Some, None, Result, Ok, Err, refl, subst, inl, inr}
+use Rattle.std.specs.Prelude.{IfErr}
+use Rattle.nbt_lease.specs.Lease.{Rows}
 use Rattle.nbt_server.specs.Serving.{ServerValue}
-use Rattle.nbt_server.specs.Calls.{ServerStarts, limited}
-use Rattle.nbt_port.specs.Clocks.{MachineTells, SteadyTells, SteadyBegins, SystemShows}
+use Rattle.nbt_server.specs.Calls.{limited}
 use Rattle.nbt_port.specs.Udp.{PortsValue}
+use Rattle.nbt_port.specs.declared.ahead.Ahead.{Ahead}
 use Rattle.nbt_port.specs.declared.fault.Fault.{Fault}
 use Rattle.nbt_port.specs.declared.fault.Fault.TheVariants.{Memory, Output}
-use Rattle.nbt_front.specs.Deciding.{DeskValue, desk_of}
-use Rattle.nbt_nbns.specs.Begin.{IsBegin, manner_at_first}
-use Rattle.nbt_nbns.specs.Inner.Starting.{Starts, StartsNot}
-use Rattle.nbt_nbns.specs.Running.{Nbns, Begins, new_journal}
+use Rattle.nbt_front.specs.FrontPort.{Fronted}
+use Rattle.nbt_front.specs.Standing.{in_the_way}
+use Rattle.nbt_serve.specs.Runs.{live_rows}
+use Rattle.nbt_serve.specs.Waiting.{WaitingValue, none_waits}
+use Rattle.nbt_store.specs.declared.beginning.Begun.{Begun}
+use Rattle.nbt_nbns.specs.Inner.Resuming.{kept_of}
+use Rattle.nbt_nbns.specs.Inner.Starting.{AreRead, Starts, StartsNot, staying_of}
 use Rattle.nbt_nbns.specs.Places.{FileValue}
+use Rattle.nbt_nbns.specs.Running.{Nbns, Begins, at_first, new_journal, port_at_first}
+use Rattle.nbt_nbns.specs.Servers.{dates_of, kept_at_first}
 use Rattle.nbt_nbns.specs.declared.arguments.NbnsArguments.{NbnsArguments}
+use Rattle.nbt_nbns.specs.declared.first_line.Manner.{Manner}
 use Rattle.nbt_nbns.specs.declared.journal.Journal.{Journal}
+use Rattle.nbt_nbns.specs.declared.opening.Told.{Told}
 use Rattle.nbt_nbns.specs.declared.starting.Started.{Started}
+use Rattle.nbt_nbns.specs.declared.teller.Untold.{Untold}
 
--- what a server and its journal are at first
-abbrev pub at_first : NbnsArguments → (start time : ℕ) → ServerValue → Option (List ℕ) → Nbns
-at_first a start time first text = record { port = record { port = record { bind = a.bind; failures = 0 }; desk = desk_of a.front [] }; clock = start; server = limited (Some a.rows_per_client) first; watcher = new_journal a (record { moment = start; time = time }) time start; text = text }
+-- what a server is at first that starts without a state, from what made it
+pub is_at_first : (a : NbnsArguments) (start clock time day no_day : ℕ) (first server : ServerValue) (journal : Journal ℕ FileValue) (text : Option (List ℕ))
+    → clock ≡ start → day ≡ time → no_day ≡ 0 → server ≡ limited (Some a.rows_per_client) first → journal ≡ new_journal a (record { moment = start; time = time }) day start
+    → staying_of {S = Bool} (port_at_first a []) (record { clock = clock; server = server; state = None; day = no_day; journal = journal }) text ≡ at_first a start time first text
+is_at_first a start clock time day no_day first server journal text c d n s j = cc
 
--- it is what goes on of a server that began, behind its port
-pub is_at_first : (a : NbnsArguments) (start time : ℕ) (first : ServerValue) (text begun_text : Option (List ℕ)) (port : PortsValue) (desk : DeskValue) (s : Started ℕ (Journal ℕ FileValue))
-    → port ≡ record { bind = a.bind; failures = 0 } → desk ≡ desk_of a.front [] → text ≡ begun_text
-    → s ≡ record { at = start; clock = start; server = limited (Some a.rows_per_client) first; journal = new_journal a (record { moment = start; time = time }) time start }
-    → ◌≡◌ {A = ℕ × Nbns} (s.at, record { port = record { port = port; desk = desk }; clock = s.clock; server = s.server; watcher = s.journal; text = text }) (start, at_first a start time first begun_text)
-is_at_first a start time first text begun_text port desk s p f t is = cc
+-- and what one is that begins with a state
+pub is_kept_at_first : (a : NbnsArguments) (begun : Begun) (monotonic time : ℕ) (store : Bool) (clock day : ℕ) (waiting : WaitingValue) (teller : List Untold) (journal : Journal ℕ FileValue) (kept : Started Bool (Ahead ℕ) ℕ (Journal ℕ FileValue)) (standing : Rows) (text : Option (List ℕ))
+    → store ≡ false → clock ≡ monotonic → day ≡ time → waiting ≡ none_waits begun.header.last → teller ≡ [] → journal ≡ new_journal a (dates_of begun time) 0 begun.start
+    → kept ≡ kept_of begun store clock day waiting teller journal a.rows_per_client → standing ≡ in_the_way a.front.fixed (live_rows begun.server)
+    → staying_of (port_at_first a standing) kept text ≡ kept_at_first a begun monotonic time text
+is_kept_at_first a begun monotonic time store clock day waiting teller journal kept standing text s c d w t j k o = cc
 
--- what a server that began is, from what made it
-pub is_started : (a : NbnsArguments) (start clock time day : ℕ) (first server : ServerValue) (journal : Journal ℕ FileValue)
-    → clock ≡ start → day ≡ time → server ≡ limited (Some a.rows_per_client) first → journal ≡ new_journal a (record { moment = start; time = time }) day start
-    → ◌≡◌ {A = Started ℕ (Journal ℕ FileValue)} (record { at = start; clock = clock; server = server; journal = journal })
-    (record { at = start; clock = start; server = limited (Some a.rows_per_client) first; journal = new_journal a (record { moment = start; time = time }) time start })
-is_started a start clock time day first server journal c d s j = cc
-
-pub starts : (a : NbnsArguments) (old_text text : Option (List ℕ)) (boot start clock day_before time day : ℕ) (first server : ServerValue) (journal : Journal ℕ FileValue)
-    → SteadyBegins SystemShows boot → SteadyTells SystemShows boot start clock → MachineTells day_before time day
-    → ((at : List Addr) × (line : List ℕ) × IsBegin at (manner_at_first a.config.longest (record { moment = start; time = time })) line × Appends old_text text line)
-    → ServerStarts a.config start first → server ≡ limited (Some a.rows_per_client) first → journal ≡ new_journal a (record { moment = start; time = time }) day start
-    → Starts a old_text text (record { at = start; clock = clock; server = server; journal = journal })
-starts a old_text text boot start clock day_before time day first server journal begun told time_told line first_is server_is journal_is = record {
-  at = line.0;
-  boot = boot;
-  start = start;
-  day = day_before;
-  time = time;
-  line = line.1;
-  begun_text = text;
-  first = first;
-  port = record { port = record { bind = a.bind; failures = 0 }; desk = desk_of a.front [] };
-  clock = clock;
-  last = server;
-  journal = journal;
-  begins = begun;
-  start_told = record { reading = told.reading; shown = told.shown; moment_is = told.moment_is; never_back = told.never_back; keeps = refl };
-  time_told = (refl, time_told.1);
-  is_first = line.2;
-  printed = line.3;
-  starts = first_is;
-  goes_on = (is_started a start clock time day first server journal told.keeps time_told.0 server_is journal_is, refl);
+-- both clocks stay at what they told
+pub are_read : (steady : ℕ) (told : Told) (day : ℕ) → AreRead steady told day → AreRead told.monotonic told told.time
+are_read steady told day r = record {
+  boot = r.boot;
+  day_before = r.day_before;
+  begins = r.begins;
+  before_told = r.before_told;
+  monotonic_told = let t = r.monotonic_told in record { reading = t.reading; shown = t.shown; moment_is = t.moment_is; never_back = t.never_back; keeps = refl };
+  time_told = (refl, r.time_told.1);
 }
 
 -- a server that began goes on behind its port
-pub goes_on : (a : NbnsArguments) (goes : (start : ℕ) → Nbns → Nbns → Type 0) (old_text begun_text text : Option (List ℕ)) (port : PortsValue) (desk : DeskValue) (s : Started ℕ (Journal ℕ FileValue)) (new : Nbns)
-    → Starts a old_text begun_text s → port ≡ record { bind = a.bind; failures = 0 } → desk ≡ desk_of a.front [] → new.text ≡ text
-    → goes s.at (record { port = record { port = port; desk = desk }; clock = s.clock; server = s.server; watcher = s.journal; text = begun_text }) new → Begins a goes old_text text
-goes_on a goes old_text begun_text text port desk s new b port_is desk_is text_is run = record {
+pub begins : {C : Type 0} (starts : Manner → Nbns C → Type 0) (goes : Nbns C → Nbns C → Type 0) (a : NbnsArguments) (standing : Rows) (old_text begun_text text : Option (List ℕ)) (port : Fronted PortsValue) (s : Started Bool C ℕ (Journal ℕ FileValue)) (new : Nbns C)
+    → Starts starts a standing old_text begun_text s → port ≡ port_at_first a standing → new.text ≡ text → goes (staying_of port s begun_text) new → Begins starts goes old_text text
+begins starts goes a standing old_text begun_text text port s new b port_is text_is run = record {
   at = b.at;
-  boot = b.boot;
-  start = b.start;
-  day = b.day;
-  time = b.time;
+  manner = b.manner;
   line = b.line;
-  begun_text = b.begun_text;
-  first = b.first;
-  port = new.port;
-  clock = new.clock;
-  last = new.server;
-  journal = new.watcher;
+  first = staying_of (port_at_first a standing) s begun_text;
+  last = new;
   begins = b.begins;
-  start_told = b.start_told;
-  time_told = b.time_told;
   is_first = b.is_first;
   printed = b.printed;
-  starts = b.starts;
-  goes_on = subst (λ (t : Option (List ℕ)). goes b.start (at_first a b.start b.time b.first b.begun_text) (record new { text = t })) text_is
-      (subst (λ (x : ℕ × Nbns). goes x.0 x.1 new) (is_at_first a b.start b.time b.first begun_text b.begun_text port desk s port_is desk_is b.goes_on.1 b.goes_on.0) run);
+  goes_on = subst (λ (p : Fronted PortsValue). goes (staying_of p s begun_text) new) port_is run;
+  text_is = text_is;
 }
+
+-- a fault that says this says that
+pub if_err_weaker : {T E : Type 0} {P Q : E → Type 0} (r : Result T E) → ((e : E) → P e → Q e) → IfErr r P → IfErr r Q
+if_err_weaker (Ok x) f was = tt
+if_err_weaker (Err e) f was = f e was
+
+-- what holds of a fault, where it is this one
+pub of_err : {T E : Type 0} (P : E → Type 0) (r : Result T E) (e : E) → r ≡ Err e → IfErr r P → P e
+of_err P r e is was = subst (λ x. IfErr x P) is was
+
+-- what isn't for the device, of these faults
+pub for_memory : (text : Option (List ℕ)) (r : Fault) → r ≡ Memory → StartsNot text text r
+for_memory text r is = inr ((λ was. cc), refl)
 
 -- how it doesn't begin, where the line isn't printed
 pub not_told : (old_text text : Option (List ℕ)) (r : Fault) → (r ≡ Output) ⊎ ((r ≡ Memory) × (text ≡ old_text)) → StartsNot old_text text r

@@ -1,13 +1,11 @@
 -- What several proofs share; the proof of a function is in the folder of its module and its name.
 
--- a server and what watches it begin, over this machine
+-- a server begins, over this machine
 mod Beginning
 -- what became of a look at the leases
 mod Looking
 -- what waits behind what was written of a log
 mod Outgoing
--- what a watcher is shown after a turn, and what came of a turn of a server that keeps its leases
+-- what a watcher is shown after a turn, and what came of a turn
 mod Telling
 mod Stayed
--- a server that keeps its leases begins, over this machine
-mod Started

@@ -9,7 +9,6 @@ pub mod Outboxes
 pub mod Places
 pub mod Reports
 pub mod Running
-pub mod Watching
 pub mod Teller
 pub mod Staying
 pub mod Folders

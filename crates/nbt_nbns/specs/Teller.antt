@@ -4,19 +4,9 @@ use Rattle.nbt_log.specs.declared.entry.Entry.{Entry}
 use Rattle.nbt_port.specs.PortCalls.{Chain}
 use Rattle.nbt_server.specs.Serving.{ServerValue}
 use Rattle.nbt_server.specs.Outcomes.{has_reply}
-use Rattle.nbt_nbns.specs.Watching.{Sight}
 use Rattle.nbt_nbns.specs.declared.staying.Shown.{Shown}
 use Rattle.nbt_serve.specs.Waiting.{ReplyValue, WaitingValue, batch}
 use Rattle.nbt_nbns.specs.declared.teller.Untold.{Untold}
-
--- what watches a server, and the turns that it isn't shown yet, in their order
-pub record TellerValue (V : Type 0) : Type 0 where
-  pub watcher : V
-  pub untold : List Untold
-
--- nothing is to be shown yet
-abbrev pub new_teller : {V : Type 0} → V → TellerValue V
-new_teller watcher = record { watcher = watcher; untold = [] }
 
 -- A turn goes last, if the server took a datagram in it. There is room for as many as replies may wait: past that, which is so only after
 -- failures of the port, those before it are left out.
@@ -49,6 +39,10 @@ abbrev pub still_untold : List ReplyValue → List Untold → List Untold
 still_untold [] untold = []
 still_untold (reply ∷ replies) untold = untold
 
+-- what a watcher makes of the server after a turn and of what it is shown, and what it prints
+abbrev pub Sight : (V : Type 0) → Type 1
+Sight V = V → ServerValue → Shown → (old_text : Option (List ℕ)) → V → (text : Option (List ℕ)) → Type 0
+
 -- what watches a server, and what is printed
 pub record Seeing (V : Type 0) : Type 0 where
   pub watcher : V
@@ -58,9 +52,8 @@ abbrev pub SeesOne : {V : Type 0} → Sight V → ServerValue → Seeing V → S
 SeesOne sees server old shown new = sees old.watcher server shown old.text new.watcher new.text
 
 -- After a turn the watcher is shown, one after the other, the turns whose replies have left by now, each with the moment and the health
--- after this turn.
-pub record Tells {V : Type 0} (sees : Sight V) (server : ServerValue) (waiting : WaitingValue) (left : Option ℕ) (shown : Shown) (old : TellerValue V) (old_text : Option (List ℕ)) (new : TellerValue V) (text : Option (List ℕ)) : Type 0 where
-  pub untold_is : new.untold ≡ still_untold waiting.replies (queued old.untold server.last shown.entry)
-  pub seen : Chain (SeesOne sees server) (record { watcher = old.watcher; text = old_text })
-      (map (λ entry. record shown { entry = entry }) (entries_shown server.table.config.life left waiting.replies (queued old.untold server.last shown.entry)))
-      (record { watcher = new.watcher; text = text })
+-- after this turn. The others aren't shown yet.
+pub record Tells {V : Type 0} (sees : Sight V) (server : ServerValue) (waiting : WaitingValue) (left : Option ℕ) (shown : Shown) (old : List Untold) (before : Seeing V) (new : List Untold) (after : Seeing V) : Type 0 where
+  pub untold_is : new ≡ still_untold waiting.replies (queued old server.last shown.entry)
+  pub seen : Chain (SeesOne sees server) before
+      (map (λ entry. record shown { entry = entry }) (entries_shown server.table.config.life left waiting.replies (queued old server.last shown.entry))) after

@@ -1,35 +1,32 @@
-//! A server that keeps its leases, stays up, and is watched.
+//! A server that stays up and is watched, with a state or without one.
 
-ghost use Rattle.std.specs.Prelude.{◌≡◌, ◌<◌, ◌≤◌, ◌+◌, ◌^◌, ℕ, List, length, Option, IfOk, IfErr, OnOk};
+ghost use Rattle.std.specs.Prelude.{◌≡◌, ℕ, List, Option, IfOk, IfErr, OnOk};
 ghost use Rattle.nbt_port.specs.Numbers.{forever};
 ghost use Rattle.nbt_port.specs.Staying.{StaysUntil, EndsEarly};
-ghost use Rattle.nbt_serve.specs.Waiting.{batch};
-ghost use Rattle.nbt_serve.specs.Turning.{KeepsTurn, BreaksKeeping};
 ghost use Rattle.nbt_nbns.specs.Inner.Ending.{EndsSo, ComesTo};
-ghost use Rattle.nbt_nbns.specs.Staying.{WatchesOn, WatchesLast, BreaksStaying, CutsStaying};
+ghost use Rattle.nbt_nbns.specs.Staying.{Breaks, BreaksStaying, CutsStaying, HasRoom, Turns, WatchesLast, WatchesOn};
 ghost use Rattle.nbt_serve.specs.declared.fault.KeepFault.TheVariants as fault;
 
+use crate::state::{State, health_of, is_idle, look_after_state, show, take_turn, tell_store};
 use crate::staying::{Shown, Watcher};
-use crate::teller::Teller;
 use arrayvec::ArrayVec;
 use nbt_lease::{Lease, Moment};
-use nbt_log::Health;
 use nbt_name::Name;
 use nbt_port::{Clock, FOREVER, Fault, Port, Turn, Turned, is_over, stay_up};
-use nbt_serve::{KeepFault, Waiting, keep_turn, look_after};
+use nbt_serve::KeepFault;
 use nbt_server::Server;
-use nbt_store::{Header, Store};
+use nbt_store::Store;
 use std::alloc::Global;
 use std::io::Write;
-use std::{io, time};
+use std::time;
 
-/// The server goes through turns as [`keep_turn`] has them until the moment `until`, if there is one, and no reply waits, and
-/// through 2^61 of them at most. It stays up when the port fails, as [`stay_up`] says. What changed at the port is said in `errors` after each turn.
-/// After one that went well the clock is read. Where no reply waits then, the watcher is shown what the turns were whose replies have left since
-/// it was shown the last one, as [`Teller`] says, and the store is looked after: the live leases are written anew in place of all changes, where the file has several times as many lines as leases with
-/// which it was written; else a line says what the clock and `day` tell, where a quarter of the longest lease passed since the last
-/// durable time, or the two went apart. `header` is that of the file, and has the moment and the time of day of the last such writing or
-/// line afterwards; `waiting` has no reply at first, and all is durable up to LAST of the header.
+/// The server goes through turns until the moment `until`, if there is one, and through 2^61 of them at most. It stays up when the port
+/// fails, as [`stay_up`] says. What changed at the port is said in `errors` after each turn. After one that went well the clock is read.
+///
+/// Without a state a turn is one of [`nbt_serve::serve_turn`], and the watcher is shown each. With one it is one of
+/// [`nbt_serve::keep_turn`], and the server ends only once no reply waits. Where none waits after a turn, the watcher is shown what the
+/// turns were whose replies have left since it was shown the last one, as [`crate::Teller`] says, and the file is looked after, as
+/// [`nbt_serve::look_after`] does; `day` is read for that alone. At first `waiting` has no reply, and all is durable up to LAST of the header.
 ///
 /// Refused with `Device` at the hundredth failure of the port in a row, and with `Store` at the first failure of the store, at
 /// once; it then says in `errors` why. No reply leaves whose change isn't durable. What can't be written to `errors` is passed over.
@@ -44,42 +41,38 @@ pub fn keep_on<
     E: Write,
 >(
     port: &mut P,
-    store: &mut S,
     clock: &mut C,
-    day: &mut D,
     server: &mut Server,
-    waiting: &mut Waiting,
-    header: &mut Header,
-    teller: &mut Teller<V>,
+    state: &mut Option<State<S>>,
+    day: &mut D,
+    watcher: &mut V,
     until: Option<Moment>,
     alloc: Global,
     machine: &M,
     writer: &mut W,
     errors: &mut E,
 ) -> Result<(), Fault>
-    requires room { length waiting.old.replies < batch }
-    ensures ok { OnOk result (StaysUntil (WatchesOn P.does P.failures S.does C.tells D.tells V.sees until) (BreaksStaying P.does P.failures S.does C.tells D.tells V.sees fault.Port) (WatchesLast P.does P.failures S.does C.tells D.tells V.sees until) forever
-        (record { keeping = record { port = port.old; store = store.old; clock = clock.old; server = server.old; waiting = waiting.old }; header = header.old; day = day.old; teller = teller.old; text = W.contents writer.old })
-        (record { keeping = record { port = port.new; store = store.new; clock = clock.new; server = server.new; waiting = waiting.new }; header = header.new; day = day.new; teller = teller.new; text = W.contents writer.new })) }
-    ensures err { IfErr result (λ why. EndsEarly (WatchesOn P.does P.failures S.does C.tells D.tells V.sees until) (BreaksStaying P.does P.failures S.does C.tells D.tells V.sees fault.Port) (CutsStaying P.does P.failures S.does C.tells D.tells V.sees) forever why
-        (record { keeping = record { port = port.old; store = store.old; clock = clock.old; server = server.old; waiting = waiting.old }; header = header.old; day = day.old; teller = teller.old; text = W.contents writer.old })
-        (record { keeping = record { port = port.new; store = store.new; clock = clock.new; server = server.new; waiting = waiting.new }; header = header.new; day = day.new; teller = teller.new; text = W.contents writer.new })) }
+    requires room { HasRoom state.old }
+    ensures ok { OnOk result (StaysUntil (WatchesOn P.does P.failures S.does C.tells D.tells V.sees until) (BreaksStaying P.does S.does C.tells fault.Port) (WatchesLast P.does P.failures S.does C.tells D.tells V.sees until) forever
+        (record { served = record { port = port.old; clock = clock.old; server = server.old; state = state.old }; day = day.old; watcher = watcher.old; text = W.contents writer.old })
+        (record { served = record { port = port.new; clock = clock.new; server = server.new; state = state.new }; day = day.new; watcher = watcher.new; text = W.contents writer.new })) }
+    ensures err { IfErr result (λ why. EndsEarly (WatchesOn P.does P.failures S.does C.tells D.tells V.sees until) (BreaksStaying P.does S.does C.tells fault.Port) (CutsStaying P.does P.failures S.does C.tells D.tells V.sees) forever why
+        (record { served = record { port = port.old; clock = clock.old; server = server.old; state = state.old }; day = day.old; watcher = watcher.old; text = W.contents writer.old })
+        (record { served = record { port = port.new; clock = clock.new; server = server.new; state = state.new }; day = day.new; watcher = watcher.new; text = W.contents writer.new })) }
 {
     let mut rows = Vec::new(alloc);
     let shown = Shown {
         entry: None,
         at: server.last(),
-        health: health_of(port, store),
+        health: health_of(port, state),
     };
-    let mut turn = KeptTurn {
+    let mut turn = WatchedTurn {
         port,
-        store,
         clock,
-        day,
         server,
-        waiting,
-        header,
-        teller,
+        kept: state,
+        day,
+        watcher,
         until,
         writer,
         rows: &mut rows,
@@ -90,28 +83,26 @@ pub fn keep_on<
     stay_up(&mut turn, FOREVER, machine, errors)
 }
 
-/// One turn of a server that keeps its leases and is watched.
+/// One turn of a server that is watched.
 #[derive(Drop)]
-struct KeptTurn<'p, 't, 'c, 'd, 's, 'r, 'h, 'v, 'w, 'b, P, S, C, D, V, W> {
+struct WatchedTurn<'p, 'c, 's, 'k, 'd, 'v, 'w, 'b, P, S, C, D, V, W> {
     port: &'p mut P,
-    store: &'t mut S,
     clock: &'c mut C,
-    day: &'d mut D,
     server: &'s mut Server,
-    waiting: &'r mut Waiting,
-    header: &'h mut Header,
-    teller: &'v mut Teller<V>,
+    kept: &'k mut Option<State<S>>,
+    day: &'d mut D,
+    watcher: &'v mut V,
     until: Option<Moment>,
     writer: &'w mut W,
     rows: &'b mut Vec<(Name, Lease)>,
     octets: ArrayVec<u8, 2048>,
     reply: ArrayVec<u8, 576>,
     shown: Shown,
-    ghost room: { length waiting.now.replies < batch },
+    ghost room: { HasRoom kept.now },
 }
 
 impl<P: Port, S: Store, C: Clock, D: Clock, V: Watcher, W: Write> Turn
-    for KeptTurn<'_, '_, '_, '_, '_, '_, '_, '_, '_, '_, P, S, C, D, V, W> {
+    for WatchedTurn<'_, '_, '_, '_, '_, '_, '_, '_, P, S, C, D, V, W> {
     ghost use Rattle.std.specs.Prelude.{[], ◌∷◌};
     ghost use Rattle.nbt_nbns.specs.declared.staying.Shown.{Shown as TurnShown};
     ghost use Rattle.nbt_nbns.specs.Staying.{Staying};
@@ -122,13 +113,13 @@ impl<P: Port, S: Store, C: Clock, D: Clock, V: Watcher, W: Write> Turn
 
     ghost Fixed = { Option ℕ × List ℕ };
 
-    ghost state = { λ t. record { keeping = record { port = t.port.now; store = t.store.now; clock = t.clock.now; server = t.server.now; waiting = t.waiting.now }; header = t.header.now; day = t.day.now; teller = t.teller.now; text = W.contents t.writer.now } };
+    ghost state = { λ t. record { served = record { port = t.port.now; clock = t.clock.now; server = t.server.now; state = t.kept.now }; day = t.day.now; watcher = t.watcher.now; text = W.contents t.writer.now } };
 
-    ghost fixed = { λ t. (t.until, t.port.ghost_name ∷ t.store.ghost_name ∷ t.clock.ghost_name ∷ t.day.ghost_name ∷ t.server.ghost_name ∷ t.waiting.ghost_name ∷ t.header.ghost_name ∷ t.teller.ghost_name ∷ t.writer.ghost_name ∷ []) };
+    ghost fixed = { λ t. (t.until, t.port.ghost_name ∷ t.clock.ghost_name ∷ t.server.ghost_name ∷ t.kept.ghost_name ∷ t.day.ghost_name ∷ t.watcher.ghost_name ∷ t.writer.ghost_name ∷ []) };
 
     ghost turns = { λ f. WatchesOn P.does P.failures S.does C.tells D.tells V.sees f.0 };
 
-    ghost breaks = { λ _. BreaksStaying P.does P.failures S.does C.tells D.tells V.sees fault.Port };
+    ghost breaks = { λ _. BreaksStaying P.does S.does C.tells fault.Port };
 
     ghost last = { λ f. WatchesLast P.does P.failures S.does C.tells D.tells V.sees f.0 };
 
@@ -137,10 +128,9 @@ impl<P: Port, S: Store, C: Clock, D: Clock, V: Watcher, W: Write> Turn
     fn take<E: Write>(&mut self, errors: &mut E) -> Turned {
         let left = match turn_and_moment(
             self.port,
-            self.store,
             self.clock,
             self.server,
-            self.waiting,
+            self.kept,
             &mut self.octets,
             &mut self.reply,
             &mut self.shown,
@@ -151,27 +141,26 @@ impl<P: Port, S: Store, C: Clock, D: Clock, V: Watcher, W: Write> Turn
                 return Turned::Failed(self.port.cause());
             }
             Err(KeepFault::Store) => {
-                tell_store(self.store, errors);
+                tell_store(self.kept, errors);
                 return Turned::CutOff(Fault::Store);
             }
         };
         self.port.tell_changes(errors);
         let at = self.shown.at;
-        self.teller.tell(
+        show(
+            self.kept,
             self.server,
-            self.waiting,
             left,
             &mut self.shown,
+            self.watcher,
             self.writer,
             errors,
         );
         after_turn(
-            self.store,
+            self.kept,
             self.day,
-            self.header,
             self.rows,
             self.server,
-            self.waiting,
             &self.until,
             at,
             errors,
@@ -179,38 +168,36 @@ impl<P: Port, S: Store, C: Clock, D: Clock, V: Watcher, W: Write> Turn
     }
 }
 
-/// Looks after the file, after a turn that went well. Returns what came of the turn.
+/// Looks after the file, if there is a state, after a turn that went well. Returns what came of the turn.
 fn after_turn<S: Store, D: Clock, E: Write>(
-    store: &mut S,
+    state: &mut Option<State<S>>,
     day: &mut D,
-    header: &mut Header,
     rows: &mut Vec<(Name, Lease)>,
     server: &Server,
-    waiting: &mut Waiting,
     until: &Option<Moment>,
     at: Moment,
     errors: &mut E,
 ) -> Turned
-    ensures comes { ComesTo S.does D.tells server.now until.now at (record { store = store.old; day = day.old; header = header.old; waiting = waiting.old }) (record { store = store.new; day = day.new; header = header.new; waiting = waiting.new }) result }
-    ensures room { length waiting.old.replies < batch → length waiting.new.replies < batch }
+    ensures comes { ComesTo S.does D.tells server.now until.now at state.old day.old state.new day.new result }
+    ensures room { HasRoom state.old → HasRoom state.new }
 {
-    match look_after(store, day, header, rows, server, waiting, at) {
-        Ok(()) => ending(until, at, waiting),
+    match look_after_state(state, day, rows, server, at) {
+        Ok(()) => ending(until, at, state),
         Err(_) => {
-            tell_store(store, errors);
+            tell_store(state, errors);
             Turned::CutOff(Fault::Store)
         }
     }
 }
 
 /// Whether a turn that went well was the last: its time is over, and no reply waits.
-fn ending(until: &Option<Moment>, at: Moment, waiting: &Waiting) -> Turned
-    ensures { EndsSo until.now at waiting.now result }
+fn ending<S>(until: &Option<Moment>, at: Moment, state: &Option<State<S>>) -> Turned
+    ensures { EndsSo until.now at state.now result }
 {
     if !is_over(until, at) {
         return Turned::Well;
     }
-    if waiting.is_clear() {
+    if is_idle(state) {
         Turned::Last
     } else {
         Turned::Well
@@ -218,63 +205,25 @@ fn ending(until: &Option<Moment>, at: Moment, waiting: &Waiting) -> Turned
 }
 
 /// One turn, and the moment after it: `shown` is what it was, where it went well. Returns at which moment what waited left, if it did.
-fn turn_and_moment<P: Port, S: Store, C: Clock>(
+fn turn_and_moment<P: Port, C: Clock, S: Store>(
     port: &mut P,
-    store: &mut S,
     clock: &mut C,
     server: &mut Server,
-    waiting: &mut Waiting,
+    state: &mut Option<State<S>>,
     octets: &mut ArrayVec<u8, 2048>,
     reply: &mut ArrayVec<u8, 576>,
     shown: &mut Shown,
 ) -> Result<Option<Moment>, KeepFault>
-    requires room { length waiting.old.replies < batch }
-    ensures ok { IfOk result (λ left. (turned : C) × KeepsTurn P.does S.does C.tells
-        (record { port = port.old; store = store.old; clock = clock.old; server = server.old; waiting = waiting.old }) shown.new.entry left
-        (record { port = port.new; store = store.new; clock = turned; server = server.new; waiting = waiting.new })
+    requires room { HasRoom state.old }
+    ensures ok { IfOk result (λ left. (turned : C) × Turns P.does S.does C.tells (record { port = port.old; clock = clock.old; server = server.old; state = state.old }) shown.new.entry left
+        (record { port = port.new; clock = turned; server = server.new; state = state.new })
         × C.tells turned shown.new.at clock.new × (shown.new.health.failures ≡ P.failures port.new)) }
-    ensures err { IfErr result (λ why. BreaksKeeping P.does S.does C.tells why
-        (record { port = port.old; store = store.old; clock = clock.old; server = server.old; waiting = waiting.old })
-        (record { port = port.new; store = store.new; clock = clock.new; server = server.new; waiting = waiting.new })) }
-    ensures room { length waiting.new.replies < batch }
+    ensures err { IfErr result (λ why. Breaks P.does S.does C.tells why (record { port = port.old; clock = clock.old; server = server.old; state = state.old })
+        (record { port = port.new; clock = clock.new; server = server.new; state = state.new })) }
+    ensures room { HasRoom state.new }
 {
-    let left = keep_turn(
-        port,
-        clock,
-        store,
-        server,
-        waiting,
-        octets,
-        reply,
-        &mut shown.entry,
-    )?;
+    let left = take_turn(port, clock, server, state, octets, reply, &mut shown.entry)?;
     shown.at = clock.now();
-    shown.health = health_of(port, store);
+    shown.health = health_of(port, state);
     Ok(left)
-}
-
-/// How the port and the store are.
-fn health_of<P: Port, S: Store>(port: &P, store: &S) -> Health
-    ensures { result.failures ≡ P.failures port.now }
-{
-    let syncs = store.syncs();
-    Health {
-        failures: port.failures(),
-        own: port.own_replies(),
-        syncs: syncs.count,
-        sync_milliseconds: syncs.milliseconds(),
-    }
-}
-
-/// Says why the store failed, where it knows it.
-fn tell_store<S: Store, E: Write>(store: &S, errors: &mut E) {
-    let _ = write_store(store, errors);
-}
-
-fn write_store<S: Store, E: Write>(store: &S, errors: &mut E) -> io::Result<()> {
-    match store.error() {
-        Some(error) => writeln!(errors, "nbt: the leases can't be kept: {error}")?,
-        None => writeln!(errors, "nbt: the leases can't be kept")?,
-    }
-    errors.flush()
 }

@@ -23,6 +23,7 @@ mod running;
 mod server;
 mod standing;
 mod starting;
+mod state;
 mod staying;
 mod teller;
 
@@ -45,5 +46,6 @@ pub use report::{Listing, Report, StatsReport};
 pub use running::run_nbns;
 pub use server::run_server;
 pub use starting::journal_of;
-pub use staying::{Shown, Watcher, watch_on};
+pub use state::State;
+pub use staying::{Shown, Watcher};
 pub use teller::{Teller, Untold};

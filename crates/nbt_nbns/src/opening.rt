@@ -2,7 +2,7 @@
 
 ghost use Rattle.std.specs.Prelude.{◌≡◌, false, IfOk, IfErr};
 ghost use Rattle.nbt_nbns.specs.Opening.{IsStoreFault, IsFoundHere, seen_in};
-ghost use Rattle.nbt_nbns.specs.Inner.Resuming.{AreRead};
+ghost use Rattle.nbt_nbns.specs.Inner.Starting.{AreRead};
 ghost use Rattle.nbt_serve.specs.Runs.{live_rows};
 
 use crate::arguments::StateFolder;

@@ -5,20 +5,18 @@ ghost use Rattle.std.specs.Io.KnownBytes.{Appends};
 ghost use Rattle.nbt_name.specs.declared.addr.Addr.{Addr};
 ghost use Rattle.nbt_front.specs.Standing.{in_the_way};
 ghost use Rattle.nbt_nbns.specs.Running.{new_journal};
-ghost use Rattle.nbt_nbns.specs.Teller.{new_teller};
 ghost use Rattle.nbt_nbns.specs.Begin.{IsBegin, manner_of};
-ghost use Rattle.nbt_nbns.specs.Servers.{dates_of};
-ghost use Rattle.nbt_nbns.specs.Inner.Starting.{StartsNot};
-ghost use Rattle.nbt_nbns.specs.Inner.Resuming.{Starts, kept_of};
+ghost use Rattle.nbt_nbns.specs.Servers.{StartsKept, dates_of};
+ghost use Rattle.nbt_nbns.specs.Inner.Starting.{Starts, StartsNot};
+ghost use Rattle.nbt_nbns.specs.Inner.Resuming.{kept_of};
 
 use crate::arguments::{NbnsArguments, StateFolder};
 use crate::first_line::manner_of;
 use crate::folder::FolderStore;
 use crate::in_the_way::tell_standing;
-use crate::journal::Journal;
 use crate::opening::{Clocks, Locked, open_store};
-use crate::place::FilePlace;
-use crate::starting::{journal_of, print_begin};
+use crate::starting::{MachineJournal, Started, StartedHere, journal_of, print_begin};
+use crate::state::State;
 use crate::teller::Teller;
 use nbt_front::Front;
 use nbt_lease::{Lease, Moment};
@@ -27,7 +25,7 @@ use nbt_name::Name;
 use nbt_port::{Ahead, Fault, MachineClock, SteadyClock, UdpPorts};
 use nbt_serve::Waiting;
 use nbt_server::Server;
-use nbt_store::{Begun, Header};
+use nbt_store::Begun;
 use std::alloc::Global;
 use std::fs::File;
 use std::io::Write;
@@ -35,44 +33,17 @@ use std::net::Net;
 use std::rt::Files;
 use std::time;
 
-/// What goes on of a server that keeps its leases, beside its port.
-#[derive(Drop)]
-pub(crate) struct KeptServer<S, C, D, V> {
-    /// Where it keeps its leases.
-    pub store: S,
-    /// The clock by which it serves.
-    pub clock: C,
-    /// The time of day.
-    pub day: D,
-    /// The server.
-    pub server: Server,
-    /// The replies that wait until what they rest on is kept.
-    pub waiting: Waiting,
-    /// The header of its file.
-    pub header: Header,
-    /// What sees each turn, and what it isn't shown yet.
-    pub teller: Teller<V>,
-}
-
-/// Such a server over a machine.
-pub(crate) type Started<'a, M> = KeptServer<
-    FolderStore<'a, M>,
-    Ahead<SteadyClock<'a, M>>,
-    MachineClock<'a, M>,
-    MachineJournal<'a, M>,
->;
+/// A server over a machine that goes on over boots.
+type Resumed<'a, M> = StartedHere<'a, M, Ahead<SteadyClock<'a, M>>>;
 
 /// Such a server that began, and of its leases those that stand in the way of fixed names.
 #[derive(Drop)]
 pub(crate) struct StartedServer<'a, M: time::Clock + Files> {
     /// The server, with all that goes on.
-    pub kept: Started<'a, M>,
+    pub kept: Resumed<'a, M>,
     /// The leases.
     pub standing: Vec<(Name, Lease)>,
 }
-
-/// What sees its turns.
-type MachineJournal<'a, M> = Journal<MachineClock<'a, M>, FilePlace<'a, M>>;
 
 /// Locks the folder, reads then the clocks and the file, and prints how a server begins with what is found. Before, a line in `errors` says of each lease that
 /// stands in the way of a fixed name until when it does. Refused with `Output`, and else with another fault than `Device`, before anything is printed; a line
@@ -86,7 +57,7 @@ pub(crate) fn start<'a, M: Net + time::Clock + Files<File = File>, W: Write, E: 
     writer: &mut W,
     errors: &mut E,
 ) -> Result<StartedServer<'a, M>, Fault>
-    ensures ok { IfOk result (λ started. Starts arguments.now state.now (W.contents writer.old) (W.contents writer.new) started.kept started.standing.items) }
+    ensures ok { IfOk result (λ started. Starts (StartsKept arguments.now state.now) arguments.now started.standing.items (W.contents writer.old) (W.contents writer.new) started.kept) }
     ensures err { IfErr result (StartsNot (W.contents writer.old) (W.contents writer.new)) }
 {
     let locked = Locked::lock(machine, alloc, state.path.as_str(), errors)?;
@@ -99,7 +70,8 @@ pub(crate) fn start<'a, M: Net + time::Clock + Files<File = File>, W: Write, E: 
     let standing = standing_of(alloc, &arguments.front, opened.rows);
     tell_standing(alloc, standing.as_slice(), begun.reads, time, errors);
     let waiting = Waiting::new(alloc, begun.header.last)?;
-    let teller = tell_begin(
+    let teller = Teller::new(alloc)?;
+    let journal = tell_begin(
         machine, alloc, arguments, port, &begun, time, count, writer, errors,
     )?;
     let rows_per_client = arguments.rows_per_client;
@@ -109,6 +81,7 @@ pub(crate) fn start<'a, M: Net + time::Clock + Files<File = File>, W: Write, E: 
         clocks,
         waiting,
         teller,
+        journal,
         rows_per_client,
     );
     Ok(StartedServer { kept, standing })
@@ -132,26 +105,30 @@ fn kept_of<'a, M: Net + time::Clock + Files>(
     store: FolderStore<'a, M>,
     clocks: Clocks<'a, M>,
     waiting: Waiting,
-    teller: Teller<MachineJournal<'a, M>>,
+    teller: Teller,
+    journal: MachineJournal<'a, M>,
     rows_per_client: u32,
-) -> Started<'a, M>
-    ensures { result ≡ kept_of begun store.entry clocks.entry.steady clocks.entry.day waiting teller.entry rows_per_client }
+) -> Resumed<'a, M>
+    ensures { result ≡ kept_of begun store.entry clocks.entry.steady clocks.entry.day waiting teller journal.entry rows_per_client }
 {
     let Clocks { steady, day, .. } = clocks;
     let Begun { server, header, .. } = begun;
     let mut server = server;
     server.limit_clients(rows_per_client);
-    KeptServer {
-        store,
+    Started {
         clock: Ahead {
             clock: steady,
             by: header.ahead,
         },
-        day,
         server,
-        waiting,
-        header,
-        teller,
+        state: Some(State {
+            store,
+            header,
+            waiting,
+            teller,
+        }),
+        day,
+        journal,
     }
 }
 
@@ -167,8 +144,8 @@ fn tell_begin<'a, M: Net + time::Clock + Files, W: Write, E: Write>(
     count: usize,
     writer: &mut W,
     errors: &mut E,
-) -> Result<Teller<MachineJournal<'a, M>>, Fault>
-    ensures teller { IfOk result (λ teller. teller ≡ new_teller (new_journal arguments.now (dates_of begun.now time) 0 begun.now.start)) }
+) -> Result<MachineJournal<'a, M>, Fault>
+    ensures journal { IfOk result (λ journal. journal ≡ new_journal arguments.now (dates_of begun.now time) 0 begun.now.start) }
     ensures line { OnOk result ((at : List Addr) × (line : List ℕ) × IsBegin at (manner_of arguments.now.config.longest begun.now.start begun.now.server.last (dates_of begun.now time) count begun.now.reason) line × Appends (W.contents writer.old) (W.contents writer.new) line) }
     ensures err { IfErr result (StartsNot (W.contents writer.old) (W.contents writer.new)) }
 {
@@ -178,10 +155,9 @@ fn tell_begin<'a, M: Net + time::Clock + Files, W: Write, E: Write>(
     };
     let day = MachineClock::new(machine);
     let journal = journal_of(machine, alloc, arguments, dates, day, begun.start, errors)?;
-    let teller = Teller::new(alloc, journal)?;
     let longest = arguments.config.longest();
     let speaks = begun.server.last();
     let manner = manner_of(longest, begun.start, speaks, &dates, count, begun.reason);
     print_begin(alloc, port, manner, writer, errors)?;
-    Ok(teller)
+    Ok(journal)
 }

@@ -1,28 +1,13 @@
 //! A name server that keeps its leases, over UDP, the system's clocks and its files.
 
-ghost use Rattle.std.specs.Prelude.{◌≡◌, ◌≤◌, ◌<◌, ◌^◌, ◌⊎◌, length, Err, OnOk, IfErr};
-ghost use Rattle.nbt_nbns.specs.Running.{PortDoes, PortFailures};
-ghost use Rattle.nbt_port.specs.Numbers.{forever};
-ghost use Rattle.nbt_port.specs.Staying.{StaysUntil, EndsEarly};
-ghost use Rattle.nbt_port.specs.Udp.{PortsValue};
-ghost use Rattle.nbt_front.specs.FrontPort.{Fronted};
+ghost use Rattle.std.specs.Prelude.{◌≡◌, ◌⊎◌, Err, OnOk};
 ghost use Rattle.nbt_nbns.specs.Servers.{KeptFails, RunsKept, RunsServer};
-ghost use Rattle.nbt_nbns.specs.Staying.{BreaksStaying, CutsStaying, WatchesLast, WatchesOn};
-ghost use Rattle.nbt_serve.specs.Waiting.{batch};
-ghost use Rattle.nbt_nbns.specs.Inner.Standing.{staying_of};
-ghost use Rattle.nbt_nbns.specs.declared.resuming.KeptServer.{KeptServer as Kept};
-ghost use Rattle.nbt_serve.specs.declared.fault.KeepFault.TheVariants as fault;
 
 use crate::arguments::{NbnsArguments, ServerArguments, StateFolder};
-use crate::keeping::keep_on;
-use crate::resuming::{KeptServer, StartedServer, start};
-use crate::running::run_nbns;
-use crate::staying::Watcher;
-use nbt_front::{Desk, FrontPort};
-use nbt_lease::Moment;
-use nbt_port::{Ahead, Clock, Fault, Port, UdpPorts, steady_clock, tell_end_of, until_of};
-use nbt_serve::SambaPort;
-use nbt_store::Store;
+use crate::resuming::{StartedServer, start};
+use crate::running::{keep_over, run_nbns};
+use nbt_front::Desk;
+use nbt_port::{Ahead, Fault, UdpPorts, steady_clock, until_of};
 use std::alloc::Global;
 use std::fs::File;
 use std::io::Write;
@@ -34,7 +19,7 @@ use std::time;
 ///
 /// With one it binds the ports, locks the folder, reads the boot, the clocks and the file, and goes on with what was kept or begins
 /// anew, as [`nbt_store::begin`] decides. It writes the file of its leases, prints where it serves, how many leases were kept, for how
-/// long it is silent and why, and stays up as [`keep_on`] does, by a clock that goes on over boots. Refused as [`run_nbns`]; and
+/// long it is silent and why, and stays up as [`crate::keep_on`] does, by a clock that goes on over boots. Refused as [`run_nbns`]; and
 /// with `Store` where the folder can't be used, read or written at the start, or later: a line in `errors` says why.
 pub fn run_server<M: Net + time::Clock + Files<File = File>, W: Write, E: Write>(
     machine: &M,
@@ -73,7 +58,7 @@ fn run_kept<M: Net + time::Clock + Files<File = File>, W: Write, E: Write>(
         machine, alloc, arguments, state, &port, writer, errors,
     )?;
     let until = until_of(kept.server.last(), arguments.time);
-    let by = kept.header.ahead;
+    let by = kept.clock.by;
     let mut desk = Desk::new(alloc, &arguments.front, Ahead { clock, by });
     desk.keep(standing);
     keep_over(
@@ -87,89 +72,4 @@ fn run_kept<M: Net + time::Clock + Files<File = File>, W: Write, E: Write>(
         writer,
         errors,
     )
-}
-
-/// Keeps a server up until it ends, over this port as it is where that is `strict`, else over one on which Samba's registrations
-/// come as registrations, and behind this front.
-fn keep_over<
-    F: Clock + Drop,
-    S: Store + Drop,
-    C: Clock + Drop,
-    D: Clock + Drop,
-    V: Watcher + Drop,
-    M: Net + time::Clock + Files,
-    W: Write,
-    E: Write,
->(
-    port: UdpPorts<'_, M>,
-    strict: bool,
-    desk: Desk<'_, F>,
-    kept: KeptServer<S, C, D, V>,
-    until: Option<Moment>,
-    alloc: Global,
-    machine: &M,
-    writer: &mut W,
-    errors: &mut E,
-) -> Result<(), Fault>
-    requires room { length kept.waiting.replies < batch }
-    ensures ok { OnOk result ((last_port : Fronted PortsValue) × (last : Kept S C D V) × StaysUntil (WatchesOn (PortDoes strict) PortFailures S.does C.tells D.tells V.sees until)
-        (BreaksStaying (PortDoes strict) PortFailures S.does C.tells D.tells V.sees fault.Port) (WatchesLast (PortDoes strict) PortFailures S.does C.tells D.tells V.sees until) forever
-        (staying_of (record { port = port.entry; desk = desk.entry }) kept (W.contents writer.old)) (staying_of last_port last (W.contents writer.new))) }
-    ensures err { IfErr result (λ why. (last_port : Fronted PortsValue) × (last : Kept S C D V) × EndsEarly (WatchesOn (PortDoes strict) PortFailures S.does C.tells D.tells V.sees until)
-        (BreaksStaying (PortDoes strict) PortFailures S.does C.tells D.tells V.sees fault.Port) (CutsStaying (PortDoes strict) PortFailures S.does C.tells D.tells V.sees) forever why
-        (staying_of (record { port = port.entry; desk = desk.entry }) kept (W.contents writer.old)) (staying_of last_port last (W.contents writer.new))) }
-{
-    let mut kept = kept;
-    if strict {
-        let port = FrontPort::new(port, desk);
-        keep_to_its_end(port, &mut kept, until, alloc, machine, writer, errors)
-    } else {
-        let port = FrontPort::new(SambaPort::new(port), desk);
-        keep_to_its_end(port, &mut kept, until, alloc, machine, writer, errors)
-    }
-}
-
-/// Keeps a server up until it ends, as [`keep_on`] does. Where the port failed for good, a line in `errors` says why.
-fn keep_to_its_end<
-    P: Port + Drop,
-    S: Store,
-    C: Clock,
-    D: Clock,
-    V: Watcher,
-    M: time::Clock,
-    W: Write,
-    E: Write,
->(
-    port: P,
-    kept: &mut KeptServer<S, C, D, V>,
-    until: Option<Moment>,
-    alloc: Global,
-    machine: &M,
-    writer: &mut W,
-    errors: &mut E,
-) -> Result<(), Fault>
-    requires room { length kept.old.waiting.replies < batch }
-    ensures ok { OnOk result ((last : P) × StaysUntil (WatchesOn P.does P.failures S.does C.tells D.tells V.sees until) (BreaksStaying P.does P.failures S.does C.tells D.tells V.sees fault.Port)
-        (WatchesLast P.does P.failures S.does C.tells D.tells V.sees until) forever (staying_of port kept.old (W.contents writer.old)) (staying_of last kept.new (W.contents writer.new))) }
-    ensures err { IfErr result (λ why. (last : P) × EndsEarly (WatchesOn P.does P.failures S.does C.tells D.tells V.sees until) (BreaksStaying P.does P.failures S.does C.tells D.tells V.sees fault.Port)
-        (CutsStaying P.does P.failures S.does C.tells D.tells V.sees) forever why (staying_of port kept.old (W.contents writer.old)) (staying_of last kept.new (W.contents writer.new))) }
-{
-    let mut port = port;
-    let ended = keep_on(
-        &mut port,
-        &mut kept.store,
-        &mut kept.clock,
-        &mut kept.day,
-        &mut kept.server,
-        &mut kept.waiting,
-        &mut kept.header,
-        &mut kept.teller,
-        until,
-        alloc,
-        machine,
-        writer,
-        errors,
-    );
-    tell_end_of(ended.err(), port.cause(), errors);
-    ended
 }

@@ -1,20 +1,22 @@
 //! How a name server begins, over a machine: its clocks, its files, and its first line.
 
-ghost use Rattle.std.specs.Prelude.{◌≡◌, ◌⊎◌, ℕ, List, OnOk, IfOk, IfErr};
+ghost use Rattle.std.specs.Prelude.{◌≡◌, ◌⊎◌, ℕ, List, [], OnOk, IfOk, IfErr};
 ghost use Rattle.std.specs.Io.KnownBytes.{Appends};
 ghost use Rattle.nbt_name.specs.declared.addr.Addr.{Addr};
 ghost use Rattle.nbt_nbns.specs.Begin.{IsBegin, manner_at_first};
-ghost use Rattle.nbt_nbns.specs.Running.{log_of, keeper_of, origin_of, new_journal};
+ghost use Rattle.nbt_nbns.specs.Running.{StartsAnew, log_of, keeper_of, origin_of, new_journal};
 ghost use Rattle.nbt_nbns.specs.Inner.Starting.{Starts, StartsNot};
 
 use crate::arguments::NbnsArguments;
 use crate::complaint::complain;
 use crate::content::Content;
 use crate::first_line::{Manner, manner_at_first, write_begin};
+use crate::folder::FolderStore;
 use crate::journal::Journal;
 use crate::keeper::Keeper;
 use crate::logger::Logger;
 use crate::place::FilePlace;
+use crate::state::State;
 use nbt_lease::{Config, Moment};
 use nbt_log::{Dates, Origin, Tally};
 use nbt_port::{
@@ -32,22 +34,32 @@ const SECOND: u64 = 1_000;
 
 /// What goes on of a server that began, beside its port.
 #[derive(Drop)]
-pub(crate) struct Started<C, V> {
-    /// When it began.
-    pub at: Moment,
+pub(crate) struct Started<S, C, D, V> {
     /// The clock by which it serves.
     pub clock: C,
     /// The server.
     pub server: Server,
+    /// What it keeps over a restart, if it has a folder for that.
+    pub state: Option<State<S>>,
+    /// The time of day, for that.
+    pub day: D,
     /// What sees each turn.
     pub journal: V,
 }
 
+/// Such a server over a machine, by this clock.
+pub(crate) type StartedHere<'a, M, C> = Started<
+    FolderStore<'a, M>,
+    C,
+    MachineClock<'a, M>,
+    MachineJournal<'a, M>,
+>;
+
 /// What sees the turns of a server over a machine.
-type MachineJournal<'a, M> = Journal<MachineClock<'a, M>, FilePlace<'a, M>>;
+pub(crate) type MachineJournal<'a, M> = Journal<MachineClock<'a, M>, FilePlace<'a, M>>;
 
 /// Reads both clocks, looks at the files, and prints where a server serves, for how long it is silent, and until when; then the server
-/// begins, and limits its clients. Refused with `NoClock`, `Memory` or `Output` before anything is printed, and with `Output` where the
+/// begins without a state, and limits its clients. Refused with `NoClock`, `Memory` or `Output` before anything is printed, and with `Output` where the
 /// line can't be written: a line in `errors` says why of each but `Memory`.
 pub(crate) fn start<'a, M: Net + time::Clock + Files, W: Write, E: Write>(
     machine: &'a M,
@@ -56,8 +68,8 @@ pub(crate) fn start<'a, M: Net + time::Clock + Files, W: Write, E: Write>(
     port: &UdpPorts<'_, M>,
     writer: &mut W,
     errors: &mut E,
-) -> Result<Started<SteadyClock<'a, M>, MachineJournal<'a, M>>, Fault>
-    ensures ok { IfOk result (λ started. Starts arguments.now (W.contents writer.old) (W.contents writer.new) started) }
+) -> Result<StartedHere<'a, M, SteadyClock<'a, M>>, Fault>
+    ensures ok { IfOk result (λ started. Starts (StartsAnew arguments.now) arguments.now [] (W.contents writer.old) (W.contents writer.new) started) }
     ensures err { IfErr result (StartsNot (W.contents writer.old) (W.contents writer.new)) }
 {
     let mut clock = steady_clock(machine, arguments.bind.first(), errors)?;
@@ -73,9 +85,10 @@ pub(crate) fn start<'a, M: Net + time::Clock + Files, W: Write, E: Write>(
     let mut server = Server::start(alloc, arguments.config, start);
     server.limit_clients(arguments.rows_per_client);
     Ok(Started {
-        at: start,
         clock,
         server,
+        state: None,
+        day: MachineClock::new(machine),
         journal,
     })
 }

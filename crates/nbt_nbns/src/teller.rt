@@ -4,7 +4,7 @@ ghost use Rattle.std.specs.Prelude.{◌≡◌, ◌↔◌, ◌≤◌, [], Some, I
 ghost use Rattle.std.specs.VecDeque.{deque_capacity};
 ghost use Rattle.nbt_port.specs.PortCalls.{Chain};
 ghost use Rattle.nbt_serve.specs.Waiting.{batch};
-ghost use Rattle.nbt_nbns.specs.Teller.{SeesOne, Tells, has_left, is_shown, new_teller, queued};
+ghost use Rattle.nbt_nbns.specs.Teller.{SeesOne, Tells, has_left, is_shown, queued};
 
 use crate::staying::{Shown, Watcher};
 use nbt_lease::{Config, Moment};
@@ -44,47 +44,46 @@ impl Untold {
     }
 }
 
-/// What watches a server, and the turns that it isn't shown yet, since a reply waits: a log says what was granted once the reply has
-/// left. A contract sees both.
+/// The turns of a server that what watches it isn't shown yet, since a reply waits: a log says what was granted once the reply has left.
+/// A contract sees them, in their order.
 #[derive(Drop)]
-pub struct Teller<V> {
-    watcher: V,
+pub struct Teller {
     untold: VecDeque<Untold>,
     ghost room: { batch ≤ deque_capacity untold },
 }
 
-impl<V> Model for Teller<V> {
-    ghost use Rattle.nbt_nbns.specs.Teller.{TellerValue};
+impl Model for Teller {
+    ghost use Rattle.std.specs.Prelude.{List};
+    ghost use Rattle.nbt_nbns.specs.declared.teller.Untold.{Untold};
 
-    ghost Value = { TellerValue V };
+    ghost Value = { List Untold };
 
-    ghost view = { λ t. record { watcher = t.watcher; untold = t.untold.items } };
+    ghost view = { λ t. t.untold.items };
 }
 
-impl<V: Drop> Teller<V> {
+impl Teller {
     /// Nothing is to be shown yet. The memory for 64 turns is taken here.
-    pub fn new(alloc: Global, watcher: V) -> Result<Teller<V>, AllocError>
-        ensures { IfOk result (λ teller. teller ≡ new_teller watcher) }
+    pub fn new(alloc: Global) -> Result<Teller, AllocError>
+        ensures { IfOk result (λ teller. teller ≡ []) }
     {
         let untold = VecDeque::with_capacity(alloc, BATCH)?;
-        Ok(Teller { watcher, untold })
+        Ok(Teller { untold })
     }
-}
 
-impl<V: Watcher> Teller<V> {
     /// A turn was this, in which what waited left at this moment, if it did. The watcher is shown each turn whose reply has left by now, in
     /// their order, this one last: so nothing while a reply waits, and that nothing was where there is none. A turn is left out whose
     /// reply was dropped since it would have left too late.
-    pub(crate) fn tell<W: Write, E: Write>(
+    pub(crate) fn tell<V: Watcher, W: Write, E: Write>(
         &mut self,
         server: &Server,
         waiting: &Waiting,
         left: Option<Moment>,
         shown: &mut Shown,
+        watcher: &mut V,
         writer: &mut W,
         errors: &mut E,
     )
-        ensures { Tells V.sees server.now waiting.now left shown.old self.old (W.contents writer.old) self.new (W.contents writer.new) }
+        ensures { Tells V.sees server.now waiting.now left shown.old self.old (record { watcher = watcher.old; text = W.contents writer.old }) self.new (record { watcher = watcher.new; text = W.contents writer.new }) }
     {
         self.queue(server.last(), shown.entry.take());
         if !waiting.is_empty() {
@@ -92,31 +91,22 @@ impl<V: Watcher> Teller<V> {
         }
         self.drop_late(server.table().config(), left);
         if self.has_none() {
-            self.watcher.see(server, shown, writer, errors);
+            watcher.see(server, shown, writer, errors);
             return;
         }
-        show_each(
-            &mut self.watcher,
-            &mut self.untold,
-            server,
-            shown,
-            writer,
-            errors,
-        );
+        show_each(watcher, &mut self.untold, server, shown, writer, errors);
     }
-}
 
-impl<V> Teller<V> {
     /// Whether no turn is to be shown.
     fn has_none(&self) -> bool
-        ensures { IsTrue result ↔ (self.now.untold ≡ []) }
+        ensures { IsTrue result ↔ (self.now ≡ []) }
     {
         self.untold.is_empty()
     }
 
     /// One more turn is to be shown, if the server took a datagram in it.
     fn queue(&mut self, read: Moment, entry: Option<Entry>)
-        ensures { self.new ≡ record self.old { untold = queued self.old.untold read entry } }
+        ensures { self.new ≡ queued self.old read entry }
     {
         let Some(entry) = entry else {
             return;
@@ -129,7 +119,7 @@ impl<V> Teller<V> {
 
     /// The turns are left out whose replies were dropped.
     fn drop_late(&mut self, limits: Config, left: Option<Moment>)
-        ensures { self.new ≡ record self.old { untold = filter (is_shown limits.life left) self.old.untold } }
+        ensures { self.new ≡ filter (is_shown limits.life left) self.old }
     {
         self.untold.retain(|untold| untold.is_shown(limits, left));
     }

@@ -9,10 +9,11 @@ use nbt_log::{Dates, Origin, Tally};
 use nbt_name::Addr;
 use nbt_nbns::{
     Content, FilePlace, Journal, Judged, Keeper, Logger, Manner, MemoryPlace, NbnsArguments,
-    Outbox, Place, judge, run_nbns, watch_on, write_begin, write_refusal, write_warning,
+    Outbox, Place, State, judge, keep_on, run_nbns, write_begin, write_refusal, write_warning,
 };
 use nbt_port::{Bind, Fault, MemoryClock, MemoryPort, Port, UdpPort};
 use nbt_server::Server;
+use nbt_store::{DiskStore, MemoryDisk};
 use nbt_testing::{
     GRANTED, QUERY, REFRESH, REFUSED, REGISTRATION, RELEASE, RIVAL, Row, clock, config, sent_all,
 };
@@ -128,26 +129,30 @@ fn journal_of<R: Abort + AllocGlobal>(
 }
 
 /// Goes on up to a moment, and writes what it prints and what it says of errors.
-fn watch<R: Abort + time::Clock, W: Write>(
+fn watch<R: Abort + AllocGlobal + time::Clock, W: Write>(
     rt: &R,
     stage: &mut Stage,
     until: u64,
     printed: &mut W,
     errors: &mut Vec<u8>,
 ) {
-    expect(rt, stage.port.failures() <= 1 << 61);
     let until = Some(Moment::new(until).expect(rt, "a moment"));
-    watch_on(
+    let mut no_state: Option<State<DiskStore<MemoryDisk>>> = None;
+    let mut day = clock(rt, &[]).expect(rt, "a clock");
+    keep_on(
         stage.port,
         stage.clock,
         stage.server,
+        &mut no_state,
+        &mut day,
         stage.journal,
         until,
+        rt.alloc(),
         rt,
         printed,
         errors,
     )
-    .expect(rt, "watch on")
+    .expect(rt, "keep on")
 }
 
 /// Goes on up to a moment. Returns what is printed, and what is said of errors.

@@ -1,13 +1,15 @@
 //! A server that keeps its leases over a port and a disk in memory, turn by turn: the life of a datagram 1,000 ms, the longest lease
 //! 60 s, started at 0. Its store's file is opened by the disk's calls 0 to 2.
 
+ghost use Rattle.nbt_nbns.specs.Staying.{HasRoom};
+
 use super::expect::{expect, expect_eq, expect_eq_in, expect_in};
 use super::stage::{Scene, play_on};
 use arrayvec::ArrayVec;
 use nbt_lease::{Lease, Moment};
 use nbt_log::{Dates, Origin, Tally};
 use nbt_name::{Addr, Name};
-use nbt_nbns::{Journal, MemoryPlace, Teller, keep_on};
+use nbt_nbns::{Journal, MemoryPlace, State, Teller, keep_on};
 use nbt_port::{Datagram, Fault, MemoryClock, MemoryPort, Port, Route};
 use nbt_serve::{BATCH, KeepFault, Waiting, keep_turn};
 use nbt_server::Server;
@@ -745,29 +747,51 @@ fn journal<R: Abort + AllocGlobal>(rt: &R) -> Journal<MemoryClock, MemoryPlace> 
     }
 }
 
+/// A state over a disk in memory.
+pub type MemoryState = State<DiskStore<MemoryDisk>>;
+
+/// What a server keeps at first, where all is durable up to this time.
+pub fn state_of<R: Abort + AllocGlobal>(
+    rt: &R,
+    store: DiskStore<MemoryDisk>,
+    header: Header,
+    durable: u64,
+) -> Option<MemoryState>
+    ensures { HasRoom result }
+{
+    let waiting = Waiting::new(rt.alloc(), durable).expect(rt, "waiting");
+    let teller = Teller::new(rt.alloc()).expect(rt, "a teller");
+    Some(State {
+        store,
+        header,
+        waiting,
+        teller,
+    })
+}
+
 /// Goes on until this moment. Returns what came of it, and what is said of errors.
 fn stay<R: Abort + AllocGlobal + time::Clock>(
     rt: &R,
-    stage: &mut Stage,
-    day: &mut MemoryClock,
-    header: &mut Header,
+    port: &mut MemoryPort,
+    clock_of: &mut MemoryClock,
+    server: &mut Server,
+    state: &mut Option<MemoryState>,
+    days: &[u64],
     until: u64,
-) -> (Result<(), Fault>, Vec<u8>) {
+) -> (Result<(), Fault>, Vec<u8>)
+    requires room { HasRoom state.old }
+{
     let until = Some(Moment::new(until).expect(rt, "a moment"));
-    let mut teller = Teller::new(rt.alloc(), journal(rt)).expect(rt, "a teller");
+    let mut journal = journal(rt);
     let mut printed: Vec<u8> = Vec::new(rt.alloc());
     let mut errors: Vec<u8> = Vec::new(rt.alloc());
-    expect(rt, stage.port.failures() <= 1 << 61);
-    expect(rt, stage.waiting.len() < BATCH);
     let came = keep_on(
-        stage.port,
-        stage.store,
-        stage.clock,
-        day,
-        stage.server,
-        stage.waiting,
-        header,
-        &mut teller,
+        port,
+        clock_of,
+        server,
+        state,
+        &mut clock(rt, days).expect(rt, "a clock"),
+        &mut journal,
         until,
         rt.alloc(),
         rt,
@@ -785,24 +809,23 @@ impl Scene for Stays {
         clock_of: &mut MemoryClock,
         server: &mut Server,
     ) {
-        let mut store = store(rt, self.trouble);
-        let mut waiting = Waiting::new(rt.alloc(), self.durable).expect(rt, "waiting");
         let mut header = header(rt);
         header.last = self.pair.0;
         header.day = self.pair.1;
-        let mut day = clock(rt, self.days).expect(rt, "a clock");
-        let mut stage = Stage {
-            port,
-            clock: clock_of,
-            server,
-            store: &mut store,
-            waiting: &mut waiting,
-        };
-        let (came, errors) = stay(rt, &mut stage, &mut day, &mut header, self.until);
+        let mut state = state_of(rt, store(rt, self.trouble), header, self.durable);
+        let (came, errors) = stay(
+            rt, port, clock_of, server, &mut state, self.days, self.until,
+        );
         expect_eq_in(rt, &self.name, &came, &self.came);
-        expect_eq_in(rt, &self.name, &stage.store.disk().calls(), &self.calls);
-        expect_eq_in(rt, &self.name, &(header.last, header.day), &self.then);
         expect_eq_in(rt, &self.name, &errors.as_slice(), &self.errors.as_bytes());
+        let kept = state.as_ref().expect(rt, "a state");
+        expect_eq_in(rt, &self.name, &kept.store.disk().calls(), &self.calls);
+        expect_eq_in(
+            rt,
+            &self.name,
+            &(kept.header.last, kept.header.day),
+            &self.then,
+        );
     }
 }
 
@@ -1099,35 +1122,20 @@ impl Scene for Long {
     ) {
         *port = port_of_one(rt);
         *clock_of = clock_of_many(rt);
-        let mut store = store(rt, None);
-        let mut waiting = Waiting::new(rt.alloc(), 60_000).expect(rt, "waiting");
-        let mut header = header(rt);
-        let mut day = clock(rt, &[60_000]).expect(rt, "a clock");
-        let mut stage = Stage {
-            port,
-            clock: clock_of,
-            server,
-            store: &mut store,
-            waiting: &mut waiting,
-        };
-        stay_long(rt, &mut stage, &mut day, &mut header)
+        let mut state = state_of(rt, store(rt, None), header(rt), 60_000);
+        let (came, _) = stay(rt, port, clock_of, server, &mut state, &[60_000], 60_003);
+        expect_eq(rt, &came, &Ok(()));
+        expect_eq(rt, &port.sent().len(), &MANY);
+        expect_written_anew(rt, state.as_ref().expect(rt, "a state"));
     }
 }
 
-/// Goes on until the file is written anew.
-fn stay_long<R: Abort + AllocGlobal + time::Clock>(
-    rt: &R,
-    stage: &mut Stage,
-    day: &mut MemoryClock,
-    header: &mut Header,
-) {
-    let (came, _) = stay(rt, stage, day, header, 60_003);
-    expect_eq(rt, &came, &Ok(()));
-    expect_eq(rt, &stage.port.sent().len(), &MANY);
+/// The file was written anew, with the one lease that there is.
+fn expect_written_anew<R: Abort + AllocGlobal>(rt: &R, state: &MemoryState) {
     // 17 batches of 64, 12 more, and 3 calls to write the file anew.
-    expect_eq(rt, &stage.store.disk().calls(), &(3 + MANY + 17 + 1 + 3));
-    expect_eq(rt, &header.last, &60_000);
-    expect_eq(rt, &rows_in(rt, stage.store.disk().octets()), &1);
+    expect_eq(rt, &state.store.disk().calls(), &(3 + MANY + 17 + 1 + 3));
+    expect_eq(rt, &state.header.last, &60_000);
+    expect_eq(rt, &rows_in(rt, state.store.disk().octets()), &1);
 }
 
 /// How many leases these octets of a file have.

@@ -1,15 +1,14 @@
 //! When a log says what the turns of a server that keeps its leases were, over a port and a disk in memory: the life of a datagram
 //! 1,000 ms, the longest lease 60 s, started at 0. Its store's file is opened by the disk's calls 0 to 2.
 
-use super::expect::{expect, expect_eq_in};
-use super::keeping::{header, store};
+use super::expect::expect_eq_in;
+use super::keeping::{header, state_of, store};
 use super::stage::{Scene, play_on};
 use nbt_lease::Moment;
 use nbt_log::{Dates, Origin, Tally};
 use nbt_name::Addr;
-use nbt_nbns::{Journal, Logger, MemoryPlace, Teller, keep_on};
-use nbt_port::{Fault, MemoryClock, MemoryPort, Port};
-use nbt_serve::{BATCH, Waiting};
+use nbt_nbns::{Journal, Logger, MemoryPlace, keep_on};
+use nbt_port::{Fault, MemoryClock, MemoryPort};
 use nbt_server::Server;
 use nbt_store::Trouble;
 use nbt_testing::{REGISTRATION, RIVAL, Row, clock};
@@ -185,20 +184,15 @@ impl Scene for Logs {
         let mut header = header(rt);
         header.last = 60_000;
         header.day = 60_000;
-        let mut waiting = Waiting::new(rt.alloc(), 60_000).expect(rt, "waiting");
-        let mut teller = Teller::new(rt.alloc(), journal(rt, self.days)).expect(rt, "a teller");
+        let mut state = state_of(rt, store(rt, self.trouble), header, 60_000);
         let mut printed: Vec<u8> = Vec::new(rt.alloc());
-        expect(rt, port.failures() <= 1 << 61);
-        expect(rt, waiting.len() < BATCH);
         let came = keep_on(
             port,
-            &mut store(rt, self.trouble),
             clock_of,
-            &mut clock(rt, &[60_000]).expect(rt, "a clock"),
             server,
-            &mut waiting,
-            &mut header,
-            &mut teller,
+            &mut state,
+            &mut clock(rt, &[60_000]).expect(rt, "a clock"),
+            &mut journal(rt, self.days),
             Moment::new(self.until),
             rt.alloc(),
             rt,

@@ -1,7 +1,30 @@
-use Rattle.nbt_nbns.proofs.Beginning.{starts}
+use Rattle.std.proofs.Common.{refl}
+use Rattle.nbt_nbns.specs.Begin.{manner_at_first}
+use Rattle.nbt_nbns.proofs.Beginning.{is_at_first}
 use Rattle.nbt_nbns.proofs.starting.start.Goals as goal
 
 pub returns-clause-ok : goal.returns-clause-ok
 returns-clause-ok g c =
-    starts c.args.arguments.now (g.W.Write.contents c.args.writer.now) (g.W.Write.contents c.tell_begin.new.writer) c.in_ok-clock.clock c.now-start.result c.now-start.new.self c.in_ok-day.day c.now.result c.now.new.self
-    c.start-server.result c.limit_clients.new.self c.in_ok-journal.journal c.in_ok-clock.ensures.ok c.now-start.ensures c.now.ensures c.in_ok-journal.ensures.line c.start-server.ensures c.limit_clients.ensures c.in_ok-journal.ensures.journal
+    let line = c.in_ok-journal.ensures.line in
+    let told = c.now-start.ensures in
+    record {
+      at = line.0;
+      manner = manner_at_first c.args.arguments.now.config.longest (record { moment = c.now-start.result; time = c.now.result });
+      line = line.1;
+      begins = record {
+        boot = c.in_ok-clock.clock;
+        start = c.now-start.result;
+        day = c.in_ok-day.day;
+        time = c.now.result;
+        server = c.start-server.result;
+        clock_begins = c.in_ok-clock.ensures.ok;
+        start_told = record { reading = told.reading; shown = told.shown; moment_is = told.moment_is; never_back = told.never_back; keeps = refl };
+        time_told = (refl, c.now.ensures.1);
+        starts = c.start-server.ensures;
+        manner_is = refl;
+        first_is = is_at_first c.args.arguments.now c.now-start.result c.now-start.new.self c.now.result c.now.new.self c.new.result c.start-server.result c.limit_clients.new.self c.in_ok-journal.journal _
+            told.keeps c.now.ensures.0 c.new.ensures c.limit_clients.ensures c.in_ok-journal.ensures.journal;
+      };
+      is_first = line.2;
+      printed = line.3;
+    }

@@ -1,6 +1,6 @@
 use Rattle.std.proofs.lemmas.Result.{on_ok_weaker}
-use Rattle.nbt_nbns.proofs.Started.{if_err_weaker}
-use Rattle.nbt_nbns.proofs.server.keep_to_its_end.Goals as goal
+use Rattle.nbt_nbns.proofs.Beginning.{if_err_weaker}
+use Rattle.nbt_nbns.proofs.running.keep_to_its_end.Goals as goal
 
 pub returns-clause-ok : goal.returns-clause-ok
 returns-clause-ok g c =
