@@ -20,14 +20,20 @@
 //! A scene is played in memory. Its lines stand for the calls of the command, in order, and no call may be another:
 //!
 //! - `# TEXT` and `= NAME TEXT`: as in a case. In a command and in a datagram a word that is a name is its text.
-//! - `$ nbt WORD ..`: the command, `lookup`, `status`, `host`, `release` or `scan`. `$ server ROWS` is a server alone, of so many rows.
+//! - `$ nbt WORD ..`: the command, `lookup`, `status`, `nbns`, `host`, `release` or `scan`. `$ server ROWS` is a server alone, of so many rows,
+//!   and `$ fixed` a file of fixed names.
 //! - `start MS`: it starts at this moment, in milliseconds, in place of 0. `room N`: standard output takes so many octets.
 //! - `at MS`: it is this moment from here on, to which a receive comes that waits. Nothing has come until then, unless the next line says so.
 //! - `set MS`: the time of day is so many milliseconds ahead of what it was at first, 2026-11-24T09:11:03Z at the moment 0.
 //! - `limit N`: a client of the server may have so many leases from here on.
+//! - `rows N`: a name server has so many rows. `kept NAME KIND ADDR END`: it goes on with this lease. `fixed TEXT`: a line of its file of fixed names.
+//! - `output N`: standard output takes so many octets from here on, and then a write would wait; it takes `all`, or its device is `full`, or a
+//!   write is `interrupted`.
 //! - `from ADDR WORDS`: a receive hands out this datagram. `cuts ADDR WORDS`: it comes cut to each shorter length. `fails`: a receive fails.
 //! - `sends ADDR WORDS`: this is sent. `loses ADDR WORDS`: this is sent, and the call fails. In each of these `ADDR at ADDR` says at which
 //!   of its own addresses the port has it come, or is to send it, where that isn't its first.
+//! - `leases TEXT`, `hosts TEXT`, `stats TEXT`: a line of the text that is put in place of the list of leases, the hosts or the statistics; with
+//!   `...` any lines stand there. `refuses leases`: it is put there, and refused.
 //! - `> TEXT`: a line that is printed, and `! TEXT`: a line of standard error, as in a case but for `...`.
 //! - `[status N]`, `[device]`, `[output]`, `[end]`: how it ends, with all flushed that it wrote.
 //! - `for A B`, lines, and `next`: these lines for each number from A to B, which stands in them for `@`: `@` is eight hexadecimal digits,

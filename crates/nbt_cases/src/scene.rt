@@ -1,9 +1,14 @@
 //! Scenes: a command over a port, clocks and outputs that a script stands for, call by call.
 
 mod command;
+mod fixed;
+mod kept;
 mod line;
+mod nbns;
+mod nbns_words;
 mod node;
 mod paper;
+mod place;
 mod playing;
 mod port;
 mod repeat;

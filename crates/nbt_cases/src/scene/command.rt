@@ -2,6 +2,7 @@
 
 ghost use Rattle.nbt_scan.specs.Plans.{IsPlan};
 
+use crate::scene::nbns::serve;
 use crate::scene::paper::ScenePaper;
 use crate::scene::port::ScenePort;
 use crate::scene::script::Scene;
@@ -65,6 +66,10 @@ fn run(stage: &Stage<'_>, alloc: Global, scene: &Scene) -> Result<u8, Failure> {
         CommandLine::Admin(AdminLine::Release(texts)) => {
             let host = release_arguments(alloc, texts)?;
             Ok(release(stage, alloc, &host, &mut writer)?)
+        }
+        CommandLine::Admin(AdminLine::Nbns(texts)) => {
+            serve(stage, alloc, scene, texts, &mut writer, &mut errors)?;
+            Ok(0)
         }
         CommandLine::Admin(AdminLine::Scan(texts)) => {
             let arguments = scan_arguments(alloc, texts)?;

@@ -3,10 +3,27 @@
 use crate::scene::repeat::listed;
 use crate::text::Names;
 use nbt_name::Addr;
+use nbt_nbns::Content;
 use nbt_port::{Datagram, Route};
 use nbt_testing::octets;
 use nbt_text::read_address;
 use std::alloc::{AllocError, Global};
+use std::io::ErrorKind;
+
+/// How much standard output takes: so many octets, and then a write fails so.
+#[derive(Clone, Copy)]
+pub struct Takes {
+    pub count: usize,
+    pub then: ErrorKind,
+}
+
+impl Takes {
+    /// All that is written.
+    pub const ALL: Takes = Takes {
+        count: usize::MAX,
+        then: ErrorKind::StorageFull,
+    };
+}
 
 /// A line of a scene, which is either something that happens or one check: a call that the command has to make then.
 #[derive(Drop)]
@@ -17,6 +34,8 @@ pub enum Line {
     Set(i64),
     /// A client of a server may have so many leases from here on.
     Limit(u32),
+    /// Standard output takes so much from here on.
+    Output(Takes),
     /// This is asked of what plays.
     Asks(String),
     /// A receive hands this out.
@@ -31,6 +50,10 @@ pub enum Line {
     Prints(Vec<u8>),
     /// Check: these octets are written to standard error.
     Says(Vec<u8>),
+    /// Check: this is a line of the text that a file is given; without one, any lines.
+    Keeps(Content, Option<String>),
+    /// Check: a file is given a text, and refuses it.
+    Refuses(Content),
     /// Check: the command ends so, as `status 0` or `device`.
     Ends(String),
     /// No line of a scene.
@@ -50,6 +73,9 @@ impl Line {
             "sends" => Ok(datagram_of(rt, names, text)?.map_or(Line::Unknown, Line::Sends)),
             "loses" => Ok(datagram_of(rt, names, text)?.map_or(Line::Unknown, Line::Loses)),
             "fails" => Ok(Line::Fails),
+            "output" => Ok(takes_of(text).map_or(Line::Unknown, Line::Output)),
+            "leases" | "hosts" | "stats" => kept_line(alloc, word, text),
+            "refuses" => Ok(content_of(text).map_or(Line::Unknown, Line::Refuses)),
             ">" => Ok(Line::Prints(whole_line(alloc, names, text)?)),
             "!" => Ok(Line::Says(whole_line(alloc, names, text)?)),
             _ => ending_of(alloc, line),
@@ -61,9 +87,52 @@ impl Line {
         match self {
             Line::Sends(_) | Line::Loses(_) | Line::Prints(_) | Line::Says(_) | Line::Ends(_) =>
                 true,
+            Line::Keeps(_, line) => line.is_some(),
+            Line::Refuses(_) => true,
             _ => false,
         }
     }
+}
+
+/// How much standard output takes, by `all`, a number of octets behind which a write would wait, or why it takes none.
+fn takes_of(text: &str) -> Option<Takes> {
+    let (count, then) = match text {
+        "all" => return Some(Takes::ALL),
+        "full" => (0, ErrorKind::StorageFull),
+        "interrupted" => (0, ErrorKind::Interrupted),
+        _ => (text.parse().ok()?, ErrorKind::WouldBlock),
+    };
+    Some(Takes { count, then })
+}
+
+/// What a file has that a name server keeps, by its word.
+fn content_of(word: &str) -> Option<Content> {
+    match word {
+        "leases" => Some(Content::Leases),
+        "hosts" => Some(Content::Hosts),
+        "stats" => Some(Content::Stats),
+        _ => None,
+    }
+}
+
+/// The word of what a file has.
+pub fn content_word(content: Content) -> &'static str {
+    match content {
+        Content::Leases => "leases",
+        Content::Hosts => "hosts",
+        Content::Stats => "stats",
+    }
+}
+
+/// A line of a file, or `...` for any.
+fn kept_line(alloc: Global, word: &str, text: &str) -> Result<Line, AllocError> {
+    let Some(content) = content_of(word) else {
+        return Ok(Line::Unknown);
+    };
+    if text == "..." {
+        return Ok(Line::Keeps(content, None));
+    }
+    Ok(Line::Keeps(content, Some(String::from_str(alloc, text)?)))
 }
 
 /// A text as a line, or without its end.

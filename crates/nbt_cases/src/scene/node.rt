@@ -1,9 +1,12 @@
 //! An end node alone, with room for one name: what it has to send, and what it tells of datagrams.
 
 use crate::scene::paper::tell;
+use crate::scene::port::ScenePort;
 use crate::scene::script::Scene;
 use crate::scene::stage::Stage;
+use crate::scene::watch::Steady;
 use arrayvec::ArrayVec;
+use nbt_client::{Want, node_turn};
 use nbt_lease::{Config, Moment};
 use nbt_name::{Addr, Kind, Name};
 use nbt_node::{Event, Node};
@@ -76,6 +79,7 @@ fn ask(stage: &Stage<'_>, node: &mut Node<1>, words: &str, out: &mut ArrayVec<u8
         ("holds", Some(name)) => tell(stage, &node.holds(now, &name.lend())),
         ("stands", Some(name)) => tell(stage, &node.standing(now, &name.lend())),
         ("refresh", Some(name)) => node.refresh_soon(&name.lend()),
+        ("turn", Some(name)) => turn(stage, node, name),
         (word, Some(name)) => request(stage, node, word, &name, kind, out),
         _ => stage.refuse(words),
     }
@@ -124,6 +128,20 @@ fn request(
             stage.print(fault);
             expect_none(stage, out);
         }
+    }
+}
+
+/// A turn of a node that wants a unique name, over the port of the scene: what is seen of it, or that the port failed.
+fn turn(stage: &Stage<'_>, node: &mut Node<1>, name: Name) {
+    let want = Want {
+        name,
+        kind: Kind::Unique,
+        ttl: LONGEST,
+    };
+    let mut port = ScenePort::new(stage);
+    match node_turn(&mut port, &mut Steady(stage), node, SERVER, &want) {
+        Ok(seen) => tell(stage, &seen),
+        Err(device) => tell(stage, &device),
     }
 }
 

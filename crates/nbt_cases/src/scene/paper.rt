@@ -3,7 +3,7 @@
 use crate::scene::stage::Stage;
 use std::fmt::Debug;
 use std::io;
-use std::io::Write;
+use std::io::{ErrorKind, Write};
 
 /// Standard output of a scene, or standard error, which takes so many octets.
 #[derive(Drop)]
@@ -25,9 +25,27 @@ impl<'s, 'a> ScenePaper<'s, 'a> {
     }
 }
 
+impl ScenePaper<'_, '_> {
+    /// How many of so many octets it takes.
+    fn take(&self, count: usize) -> Result<usize, ErrorKind> {
+        if self.is_error {
+            Ok(count)
+        } else {
+            self.stage.take_output(count)
+        }
+    }
+}
+
 impl Write for ScenePaper<'_, '_> {
     fn write(&mut self, buf: &[u8]) -> io::Result<usize> {
-        let count = buf.len().min(self.room);
+        let most = buf.len().min(self.room);
+        let count = match self.take(most) {
+            Ok(count) => count.min(most),
+            Err(kind) => {
+                self.stage.flush();
+                return Err(io::Error::from(kind));
+            }
+        };
         self.room -= count;
         self.stage.write(self.is_error, &buf[..count]);
         if count < buf.len() {

@@ -1,6 +1,7 @@
 //! Plays scenes, by what each begins with.
 
 use crate::scene::command::play_command;
+use crate::scene::fixed::play_fixed;
 use crate::scene::node::play_node;
 use crate::scene::script::Scene;
 use crate::scene::server::play_server;
@@ -23,6 +24,7 @@ fn play_on<R: AllocGlobal>(rt: &R, stage: &Stage<'_>, scene: &Scene) -> Result<(
     let alloc = rt.alloc();
     match scene.words.as_slice() {
         [word] if word.as_str() == "node" => Ok(play_node(stage, scene)),
+        [word] if word.as_str() == "fixed" => play_fixed(stage, alloc, scene),
         [word] if word.as_str() == "words" => play_words(rt, stage, scene),
         [word, rows] if word.as_str() == "server" => {
             Ok(play_server(stage, alloc, scene, rows.parse().unwrap_or(0)))

@@ -3,6 +3,7 @@
 use crate::scene::line::{Line, datagram_of, whole_line};
 use crate::scene::repeat::with_number;
 use crate::text::Names;
+use nbt_lease::ROWS_MOST;
 use nbt_port::Datagram;
 use std::alloc::{AllocError, Global};
 
@@ -15,6 +16,12 @@ pub struct Scene {
     pub start: u64,
     /// How many octets its output takes.
     pub room: usize,
+    /// How many leases a name server's table has room for.
+    pub rows: usize,
+    /// The leases that a name server goes on with, in words.
+    pub kept: Vec<String>,
+    /// The file of fixed names.
+    pub fixed: Vec<u8>,
     pub lines: Vec<Line>,
     /// The lines as they were written.
     pub texts: Vec<String>,
@@ -32,6 +39,9 @@ impl Scene {
             words: Vec::new(rt.alloc()),
             start: 0,
             room: usize::MAX,
+            rows: ROWS_MOST,
+            kept: Vec::new(rt.alloc()),
+            fixed: Vec::new(rt.alloc()),
             lines: Vec::new(rt.alloc()),
             texts: Vec::new(rt.alloc()),
         };
@@ -109,6 +119,9 @@ impl Scene {
             ("do", text) => self.take_request(alloc, names, line, text)?,
             ("cuts", text) => self.take_cut(rt, names, text)?,
             ("room", text) => self.room = text.parse().unwrap_or(0),
+            ("rows", text) => self.rows = text.parse().unwrap_or(0),
+            ("kept", text) => self.kept.push(names.words_of(alloc, text)?)?,
+            ("fixed", text) => names.push_line(alloc, text, &mut self.fixed)?,
             _ => {
                 self.lines.push(Line::read(rt, names, line)?)?;
                 self.texts.push(String::from_str(alloc, line)?)?;

@@ -1,11 +1,14 @@
 //! A server alone: its replies to datagrams, by its rules and without a port of its own.
 
-use crate::scene::paper::ScenePaper;
+use crate::scene::paper::{ScenePaper, tell};
+use crate::scene::port::ScenePort;
 use crate::scene::script::Scene;
 use crate::scene::stage::Stage;
+use crate::scene::watch::Steady;
 use arrayvec::ArrayVec;
 use nbt_lease::Config;
 use nbt_port::Route;
+use nbt_serve::serve_turns;
 use nbt_server::Server;
 use std::alloc::Global;
 use std::io::Write;
@@ -22,12 +25,33 @@ pub fn play_server(stage: &Stage<'_>, alloc: Global, scene: &Scene, rows: usize)
     };
     let mut server = Server::start(alloc, config, stage.now());
     for _ in 0..scene.lines.len() {
-        if !stage.has_more() {
+        if let Some(words) = stage.request() {
+            ask(stage, &mut server, words);
+        } else if stage.has_more() {
+            turn(stage, &mut server);
+        } else {
             break;
         }
-        turn(stage, &mut server);
     }
     stage.end("end")
+}
+
+/// Goes through turns, and prints what was done in them, or that the port failed; or prints the server's last moment.
+fn ask(stage: &Stage<'_>, server: &mut Server, words: &str) {
+    let (word, count) = words.split_once(" ").unwrap_or((words, ""));
+    match (word, count.parse()) {
+        ("turns", Ok(turns)) => {
+            let counts = serve_turns(
+                &mut ScenePort::new(stage),
+                &mut Steady(stage),
+                server,
+                turns,
+            );
+            tell(stage, &counts)
+        }
+        ("last", _) => tell(stage, &server.last().get()),
+        _ => stage.refuse(words),
+    }
 }
 
 /// Receives once, and replies.

@@ -1,13 +1,15 @@
 //! Where a scene is played: what happens next, and whether each call is the one that it has next.
 
-use crate::scene::line::Line;
+use crate::scene::line::{Line, Takes, content_word};
 use crate::scene::script::Scene;
 use arrayvec::ArrayVec;
 use nbt_lease::Moment;
+use nbt_nbns::Content;
 use nbt_port::{Datagram, Device, Route};
 use nbt_text::write_address;
 use std::alloc::{AllocError, Global};
 use std::cell::Cell;
+use std::io::ErrorKind;
 
 /// The time of day at the moment 0, 2026-11-24T09:11:03Z, in milliseconds since 1970.
 const DAY: i64 = 1_795_511_463_000;
@@ -24,6 +26,7 @@ pub struct Stage<'a> {
     now: Cell<u64>,
     ahead: Cell<i64>,
     limit: Cell<Option<u32>>,
+    output: Cell<Takes>,
     checks: Cell<u64>,
     is_wrong: Cell<bool>,
     missed: Cell<Option<String>>,
@@ -40,6 +43,7 @@ impl<'a> Stage<'a> {
             now: Cell::new(scene.start),
             ahead: Cell::new(0),
             limit: Cell::new(None),
+            output: Cell::new(Takes::ALL),
             checks: Cell::new(0),
             is_wrong: Cell::new(false),
             missed: Cell::new(None),
@@ -76,6 +80,20 @@ impl<'a> Stage<'a> {
     /// How many octets standard output takes.
     pub fn room(&self) -> usize {
         self.scene.room
+    }
+
+    /// How many of so many octets standard output takes. Refused where it takes none of them.
+    pub fn take_output(&self, count: usize) -> Result<usize, ErrorKind> {
+        let takes = self.output.get();
+        if takes.count == 0 && count > 0 {
+            return Err(takes.then);
+        }
+        let taken = count.min(takes.count);
+        self.output.set(Takes {
+            count: takes.count - taken,
+            then: takes.then,
+        });
+        Ok(taken)
     }
 
     /// How many leases a client of a server may have, where there is a limit.
@@ -180,6 +198,69 @@ impl<'a> Stage<'a> {
         }
     }
 
+    /// A file is given a text. Returns whether it takes it: then each of its lines is the next one, or one of any that may stand there.
+    pub fn keep(&self, content: Content, text: &str) -> bool {
+        if self.passes_refusal(content) {
+            return false;
+        }
+        for line in text.lines() {
+            self.keep_line(content, line);
+        }
+        if self.is_kept_next(content, 0, None) {
+            self.pass();
+        }
+        if !text.ends_with("\n") || self.has_kept(content) {
+            self.miss(told_keeping(self.alloc, content, "ends"));
+        }
+        true
+    }
+
+    /// Whether a line of this file comes next.
+    fn has_kept(&self, content: Content) -> bool {
+        matches!(self.next(), Some(Line::Keeps(wanted, _)) if *wanted == content)
+    }
+
+    fn passes_refusal(&self, content: Content) -> bool {
+        let is_next = matches!(self.next(), Some(Line::Refuses(wanted)) if *wanted == content);
+        if is_next {
+            self.pass();
+        }
+        is_next
+    }
+
+    /// A line of a text that a file is given.
+    fn keep_line(&self, content: Content, line: &str) {
+        if !self.is_kept_next(content, 0, None) {
+            return self.pass_kept(content, line);
+        }
+        if self.is_kept_next(content, 1, Some(line)) {
+            self.pass();
+            self.pass();
+        }
+    }
+
+    fn pass_kept(&self, content: Content, line: &str) {
+        if self.is_kept_next(content, 0, Some(line)) {
+            self.pass();
+        } else {
+            self.miss(told_keeping(self.alloc, content, line));
+        }
+    }
+
+    /// Whether the line so far behind the next one is this one of a file, or stands for any.
+    fn is_kept_next(&self, content: Content, behind: usize, line: Option<&str>) -> bool {
+        if self.is_wrong.get() {
+            return false;
+        }
+        let place = self.place.get().saturating_add(behind);
+        match self.scene.lines.get(place) {
+            Some(Line::Keeps(wanted, text)) => {
+                *wanted == content && text.as_ref().map(|text| text.as_str()) == line
+            }
+            _ => false,
+        }
+    }
+
     pub fn flush(&self) {
         self.is_flushed.set(true);
     }
@@ -253,6 +334,7 @@ impl<'a> Stage<'a> {
             match line {
                 Line::Set(ahead) => self.ahead.set(*ahead),
                 Line::Limit(rows) => self.limit.set(Some(*rows)),
+                Line::Output(takes) => self.output.set(*takes),
                 _ => return,
             }
             self.step();
@@ -299,6 +381,13 @@ fn told_sending(alloc: Global, to: Route, octets: &[u8]) -> Result<String, Alloc
     for octet in octets {
         write!(text, "{octet:02x}")?;
     }
+    Ok(text)
+}
+
+fn told_keeping(alloc: Global, content: Content, line: &str) -> Result<String, AllocError> {
+    let mut text = String::from_str(alloc, content_word(content))?;
+    text.push_str(" ")?;
+    text.push_str(line)?;
     Ok(text)
 }
 

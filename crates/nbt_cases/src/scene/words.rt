@@ -1,5 +1,6 @@
 //! What words come to, and how they are printed: one line a call.
 
+use crate::scene::nbns_words::{answer_of_server, taking};
 use crate::scene::paper::tell;
 use crate::scene::script::Scene;
 use crate::scene::stage::Stage;
@@ -28,10 +29,10 @@ pub fn play_words<R: AllocGlobal>(
             break;
         };
         let (word, text) = words.split_once(" ").unwrap_or((words, ""));
-        if word == "reply" {
-            reply(rt, stage, text)?;
-        } else {
-            answer(rt.alloc(), stage, word, text)?;
+        match word {
+            "reply" => reply(rt, stage, text)?,
+            "taken" | "cuts" => taking(rt, stage, word, text)?,
+            _ => answer(rt.alloc(), stage, word, text)?,
         }
     }
     Ok(stage.end("end"))
@@ -60,6 +61,7 @@ fn answer(alloc: Global, stage: &Stage<'_>, word: &str, text: &str) -> Result<()
             Err(_) => stage.refuse(text),
         }),
         "suffix" => Ok(suffix(stage, text)),
+        "day" | "judged" | "network" => answer_of_server(alloc, stage, word, text),
         _ => name(alloc, stage, word, text),
     }
 }
