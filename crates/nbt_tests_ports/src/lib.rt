@@ -1,4 +1,4 @@
-//! Ports, and lookups, scans, releases and hosts over them, tested from without by worked rows.
+//! Ports, and lookups, scans, releases, hosts and name servers over them and over files, tested from without by worked rows.
 #![tactic(auto)]
 
 #[cfg(test)]
