@@ -12,10 +12,11 @@ use nbt_front::{Desk, Front, FrontPort, read_fixed, read_network};
 use nbt_lease::{Config, Lease, Moment};
 use nbt_log::{Dates, Origin, Tally};
 use nbt_name::Name;
-use nbt_nbns::{Content, Journal, Keeper, Logger, watch_on};
+use nbt_nbns::{Content, Journal, Keeper, Logger, State, keep_on};
 use nbt_port::{Fault, Port, until_of};
 use nbt_serve::SambaPort;
 use nbt_server::Server;
+use nbt_store::{DiskStore, MemoryDisk};
 use nbt_text::read_duration;
 use std::alloc::{AllocError, Global};
 
@@ -72,7 +73,16 @@ fn serve_with(
     front.fixed().retain_in_the_way(&mut rows);
     let mut desk = Desk::new(alloc, front, Steady(stage));
     desk.keep(rows);
-    serve_behind(stage, desk, texts, server, &mut journal, writer, errors)
+    serve_behind(
+        stage,
+        alloc,
+        desk,
+        texts,
+        server,
+        &mut journal,
+        writer,
+        errors,
+    )
 }
 
 /// The limits of a server.
@@ -176,6 +186,7 @@ fn keeper_of<'s, 'a>(
 /// Has a server stay up behind a front, over the port as it is where that is strict, else over one that takes Samba's registrations.
 fn serve_behind(
     stage: &Stage<'_>,
+    alloc: Global,
     desk: Desk<'_, Steady<'_, '_>>,
     texts: &NbnsTexts<'_>,
     server: &mut Server,
@@ -190,29 +201,38 @@ fn serve_behind(
     let port = ScenePort::new(stage);
     if texts.strict {
         let mut port = FrontPort::new(port, desk);
-        watch(&mut port, stage, server, journal, until, writer, errors)
+        watch(
+            &mut port, stage, alloc, server, journal, until, writer, errors,
+        )
     } else {
         let mut port = FrontPort::new(SambaPort::new(port), desk);
-        watch(&mut port, stage, server, journal, until, writer, errors)
+        watch(
+            &mut port, stage, alloc, server, journal, until, writer, errors,
+        )
     }
 }
 
-/// Watches a server until it ends.
+/// Watches a server without a state until it ends.
 fn watch<P: Port>(
     port: &mut P,
     stage: &Stage<'_>,
+    alloc: Global,
     server: &mut Server,
     journal: &mut SceneJournal<'_, '_>,
     until: Option<Moment>,
     writer: &mut ScenePaper<'_, '_>,
     errors: &mut ScenePaper<'_, '_>,
 ) -> Result<(), Fault> {
-    watch_on(
+    let mut no_state: Option<State<DiskStore<MemoryDisk>>> = None;
+    keep_on(
         port,
         &mut Steady(stage),
         server,
+        &mut no_state,
+        &mut Day(stage),
         journal,
         until,
+        alloc,
         &Sleeper(stage),
         writer,
         errors,
