@@ -4,4 +4,3 @@ mod Each
 pub mod Ends
 mod Fixed
 mod Named
-pub mod Takes

@@ -7,13 +7,12 @@ use Rattle.nbt_scan.specs.declared.form.Form.{Form}
 use Rattle.nbt_scan.specs.declared.form.Form.TheVariants.{Plain, Long, Hosts, Json}
 use Rattle.nbt_scan.specs.declared.span.Span.{Span}
 use Rattle.nbt_scan.specs.Spans.{AreFew, AreOf}
-use Rattle.nbt_text.specs.Number.{SpellsWithin}
 use Rattle.nbt_scan.specs.Words.{SpellsSpan}
 use Rattle.nbt_args.specs.declared.scan.ScanTexts.{ScanTexts}
 use Rattle.nbt_admin.specs.Failures.{Reports, out_of_memory}
 use Rattle.nbt_admin.specs.Reading.{Reads, Where, Then, Makes, Each}
 use Rattle.nbt_admin.specs.Texts.{AreOfOne, ReadsSource}
-use Rattle.nbt_admin.specs.Times.{SpellsWait, AreTries}
+use Rattle.nbt_admin.specs.Times.{ReadsUpTo, SpellsWait, AreTries}
 use Rattle.nbt_admin.specs.declared.failure.ArgumentFault.{ArgumentFault}
 use Rattle.nbt_admin.specs.declared.failure.ArgumentFault.TheVariants as w
 use Rattle.nbt_admin.specs.declared.failure.Complaint.TheVariants as complaint
@@ -45,9 +44,6 @@ rate_most = 10000
 
 abbrev pub port_most : ℕ
 port_most = 65535
-
-abbrev pub ReadsUpTo : (most : ℕ) → ArgumentFault → List ℕ → Result ℕ Failure → Type 0
-ReadsUpTo most fault text = Reads (SpellsWithin 1 most text) (Reports text fault)
 
 abbrev pub ReadsWait : List ℕ → Result ℕ Failure → Type 0
 ReadsWait text = Reads (SpellsWait text) (Reports text w.Wait)

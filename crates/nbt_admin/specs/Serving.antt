@@ -5,7 +5,7 @@ use Rattle.std.specs.Global.{Vec}
 use Rattle.std.specs.Option.{option_map, unwrap_or}
 use Rattle.std.specs.String.{string_bytes}
 use Rattle.nbt_name.specs.declared.addr.Addr.{Addr}
-use Rattle.nbt_lease.specs.Config.{ConfigValue}
+use Rattle.nbt_lease.specs.Config.{ConfigValue, rows_most}
 use Rattle.nbt_port.specs.declared.bind.Bind.{Bind}
 use Rattle.nbt_port.specs.declared.bind.Bind.TheVariants.{To, Every}
 use Rattle.nbt_front.specs.Networks.{NetworkValue, SpellsNetwork}
@@ -16,7 +16,7 @@ use Rattle.std.specs.Result.{MatchResult}
 use Rattle.nbt_admin.specs.Failures.{Reports, IsBad, out_of_memory}
 use Rattle.nbt_admin.specs.Reading.{Reads, Where, Then, Each, Fits, Gives, Makes, IfGiven}
 use Rattle.nbt_admin.specs.Texts.{ReadsAddress}
-use Rattle.nbt_admin.specs.Times.{ReadsConfig, ReadsTime, NeedsFit, ReadsRows, client_rows}
+use Rattle.nbt_admin.specs.Times.{ReadsConfig, ReadsTime, NeedsFit, ReadsUpTo, client_rows}
 use Rattle.nbt_admin.specs.declared.failure.ArgumentFault.{ArgumentFault}
 use Rattle.nbt_admin.specs.declared.failure.ArgumentFault.TheVariants as w
 use Rattle.nbt_admin.specs.declared.failure.Failure.{Failure}
@@ -109,7 +109,7 @@ ReadsNbns texts allowed = Then (ReadsConfig texts.life.now texts.longest.now) (�
     Then (IfGiven (ReadsFolder texts.silent_after_boot) texts.state) (λ state.
     Then (ReadsFiles texts) (λ files.
     Then (NeedsFree texts) (λ _.
-    Then (IfGiven ReadsRows texts.rows_per_client) (λ rows.
+    Then (IfGiven (ReadsUpTo rows_most w.ClientRows) texts.rows_per_client) (λ rows.
     Gives (record {
       nbns = record {
         bind = bind;

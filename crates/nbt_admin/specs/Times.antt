@@ -1,8 +1,8 @@
 -- The times, limits and numbers that texts of arguments are read as (our profile).
 use Rattle.std.specs.Prelude.{◌≡◌, ◌≢◌, ◌≤◌, ◌↔◌, ℕ, List, Result, codes}
-use Rattle.nbt_lease.specs.Config.{ConfigValue, config_of, IsLife, IsLongest, IsRows, rows_most, milliseconds}
+use Rattle.nbt_lease.specs.Config.{ConfigValue, config_of, IsLife, IsLongest, rows_most, milliseconds}
 use Rattle.nbt_client.specs.Asking.{patience_of, tries_most}
-use Rattle.nbt_text.specs.Number.{SpellsNumber}
+use Rattle.nbt_text.specs.Number.{SpellsWithin}
 use Rattle.nbt_nbns.specs.Limits.{judged}
 use Rattle.nbt_nbns.specs.declared.limits.Judged.TheVariants.{Short}
 use Rattle.nbt_text.specs.Times.{SpellsTime}
@@ -11,11 +11,16 @@ use Rattle.nbt_admin.specs.Reading.{Reads, Needs, Then, Gives}
 use Rattle.nbt_admin.specs.declared.failure.Complaint.TheVariants as complaint
 use Rattle.nbt_admin.specs.declared.failure.Failure.{Failure}
 use Rattle.nbt_admin.specs.declared.failure.Failure.TheVariants.{Complaint}
+use Rattle.nbt_admin.specs.declared.failure.ArgumentFault.{ArgumentFault}
 use Rattle.nbt_admin.specs.declared.failure.ArgumentFault.TheVariants as w
 
 -- for how many milliseconds a command runs
 abbrev pub ReadsTime : List ℕ → Result ℕ Failure → Type 0
 ReadsTime text = Reads (SpellsTime text) (Reports text w.Time)
+
+-- a number from 1 on, and no greater than this
+abbrev pub ReadsUpTo : (most : ℕ) → ArgumentFault → List ℕ → Result ℕ Failure → Type 0
+ReadsUpTo most fault text = Reads (SpellsWithin 1 most text) (Reports text fault)
 
 -- ---- how long to wait for a reply
 
@@ -67,7 +72,3 @@ NeedsFit config = Needs (judged config ≢ Short) (λ failure. failure ≡ Compl
 -- without a text
 abbrev pub client_rows : ℕ
 client_rows = 64
-
--- no more than a server has
-abbrev pub ReadsRows : List ℕ → Result ℕ Failure → Type 0
-ReadsRows text = Reads (λ rows. SpellsNumber text rows × IsRows rows) (Reports text w.ClientRows)

@@ -7,10 +7,10 @@ ghost use Rattle.nbt_admin.specs.Asking.{ReadsLookup, ReadsStatus, AsksHost};
 use crate::failure::{ArgumentFault, Failure};
 use crate::naming::{apart, expect_no_address, name_of, name_to_ask, peer_of, source_of};
 use crate::reading::{ReadEach, read_each};
-use crate::timing::parse_between;
 use nbt_args::{LimitedArgument, LimitedCommand, LookupTexts, StatusTexts};
 use nbt_client::{Question, TRIES_MOST, patience_of};
 use nbt_name::Addr;
+use nbt_text::duration_within;
 use std::alloc::Global;
 
 /// The arguments of a lookup or of a status request: the own address, the question, and the time to wait for a reply, in milliseconds.
@@ -115,7 +115,7 @@ fn patience(alloc: Global, command: LimitedCommand, tries: &str, wait: &str) -> 
     ensures { ReadsPatience tries.now wait.now result }
 {
     let limits = LimitedArgument::Wait;
-    match parse_between(wait, limits.least(), limits.most()) {
+    match duration_within(wait, limits.least(), limits.most()) {
         Some(last) => Ok(patience_of(tries_of(tries), last as u32)),
         None => Err(Failure::from(nbt_args::bad_value(alloc, command, limits, wait))),
     }

@@ -18,7 +18,7 @@ use nbt_client::ask_here;
 use nbt_host::{HostArguments, run_host, run_release};
 use nbt_lease::Config;
 use nbt_nbns::{Judged, ServerArguments, judge, run_server, write_warning};
-use nbt_port::Fault;
+use nbt_port::{Fault, print};
 use nbt_scan::run_scan;
 use std::alloc::Global;
 use std::fs::File;
@@ -134,13 +134,6 @@ fn ask<M: Net + time::Clock, W: Write, E: Write>(
     )?;
     print(text.as_str(), writer).map_err(|_| Fault::Output)?;
     Ok(answer.status())
-}
-
-fn print<W: Write>(text: &str, writer: &mut W) -> io::Result<()>
-    ensures { OnOk result (Appends (W.contents writer.old) (W.contents writer.new) text.now) }
-{
-    writer.write_all(text.as_bytes())?;
-    writer.flush()
 }
 
 /// Runs a name server.

@@ -1,25 +1,22 @@
 //! Reads the arguments of `scan`.
 
-ghost use Rattle.std.specs.Prelude.{◌≡◌, ◌<◌, ◌^◌, IfOk};
+ghost use Rattle.std.specs.Prelude.{◌≡◌, IfOk};
 ghost use Rattle.nbt_scan.specs.Plans.{IsPlan};
-ghost use Rattle.nbt_admin.specs.Scans.{ReadsScan, ReadsUpTo, ReadsWait, form_of};
+ghost use Rattle.nbt_admin.specs.Scans.{ReadsScan, ReadsWait, form_of};
 
 use crate::asking::tries_of;
 use crate::failure::{ArgumentFault, Failure};
 use crate::naming::source_of;
 use crate::spans::spans_of;
-use crate::timing::parse_between;
-use nbt_args::ScanTexts;
+use crate::timing::number_of;
+use nbt_args::{ScanTexts, WAIT_MOST};
 use nbt_name::Addr;
 use nbt_scan::{Form, Layout, Plan, addresses_of};
-use nbt_text::number_within;
+use nbt_text::duration_within;
 use std::alloc::Global;
 
 /// The most requests in a second (our profile).
 pub(crate) const RATE_MOST: u64 = 10_000;
-
-/// The longest wait after a pass, in milliseconds (our profile).
-const WAIT_MOST: u64 = 5_000;
 
 /// The greatest port.
 pub(crate) const PORT_MOST: u64 = 65_535;
@@ -65,22 +62,11 @@ pub fn scan_arguments(alloc: Global, texts: &ScanTexts<'_>) -> Result<ScanArgume
     })
 }
 
-/// Reads a whole number from 1 to `most`.
-fn number_of(alloc: Global, text: &str, most: u64, fault: ArgumentFault) -> Result<u32, Failure>
-    requires { most < 2 ^ 32 }
-    ensures { ReadsUpTo most fault text.now result }
-{
-    match number_within(text, 1, most) {
-        Some(number) => Ok(number as u32),
-        None => Err(Failure::of_argument(alloc, text, fault)),
-    }
-}
-
 /// Reads for how long replies are waited for, in milliseconds.
 fn wait_of(alloc: Global, text: &str) -> Result<u32, Failure>
     ensures { ReadsWait text.now result }
 {
-    match parse_between(text, 1, WAIT_MOST) {
+    match duration_within(text, 1, WAIT_MOST) {
         Some(wait) => Ok(wait as u32),
         None => Err(Failure::of_argument(alloc, text, ArgumentFault::Wait)),
     }

@@ -1,16 +1,15 @@
 //! Reads times, limits and numbers.
 
-ghost use Rattle.std.specs.Prelude.{◌≡◌, ◌≤◌, ◌↔◌, ℕ, IsSome, IfSome, IfNone};
-ghost use Rattle.nbt_lease.specs.Config.{IsLongest, IsRows, milliseconds};
-ghost use Rattle.nbt_text.specs.Number.{SpellsNumber};
-ghost use Rattle.nbt_text.specs.Times.{SpellsTime};
+ghost use Rattle.std.specs.Prelude.{◌≡◌, ◌<◌, ◌^◌, ℕ, IsSome, IfSome, IfNone};
+ghost use Rattle.nbt_lease.specs.Config.{IsLongest, milliseconds, rows_most};
 ghost use Rattle.nbt_admin.specs.Reading.{IfGiven};
-ghost use Rattle.nbt_admin.specs.Times.{SpellsLongest, ReadsConfig, NeedsFit, ReadsTime, ReadsRows};
+ghost use Rattle.nbt_admin.specs.Times.{SpellsLongest, ReadsConfig, NeedsFit, ReadsTime, ReadsUpTo};
+ghost use Rattle.nbt_admin.specs.declared.failure.ArgumentFault.TheVariants.{ClientRows};
 
 use crate::failure::{ArgumentFault, Complaint, Failure};
 use nbt_lease::{Config, LIFE_MOST, LONGEST_MOST, ROWS_MOST};
 use nbt_nbns::{Judged, judge};
-use nbt_text::{parse_number, read_duration};
+use nbt_text::{duration_within, number_within, read_duration};
 use std::alloc::Global;
 
 /// The milliseconds of a second.
@@ -20,7 +19,7 @@ const SECOND: u64 = 1_000;
 pub fn config_of(alloc: Global, life: &str, longest: &str) -> Result<Config, Failure>
     ensures { ReadsConfig life.now longest.now result }
 {
-    let Some(milliseconds) = parse_between(life, 1, LIFE_MOST) else {
+    let Some(milliseconds) = duration_within(life, 1, LIFE_MOST) else {
         return Err(Failure::of_argument(alloc, life, ArgumentFault::Life));
     };
     let Some(seconds) = parse_longest(longest) else {
@@ -61,67 +60,25 @@ fn time_of(alloc: Global, text: &str) -> Result<u64, Failure>
 
 /// Reads how many live leases a client of a server may have: a whole number from 1 to 4,096; `None` without a text.
 pub fn client_rows_of(alloc: Global, text: Option<&str>) -> Result<Option<u32>, Failure>
-    ensures { IfGiven ReadsRows text.entry result }
+    ensures { IfGiven (ReadsUpTo rows_most ClientRows) text.entry result }
 {
     match text {
-        Some(text) => Ok(Some(rows_of(alloc, text)?)),
+        Some(text) => {
+            let most = ROWS_MOST as u64;
+            Ok(Some(number_of(alloc, text, most, ArgumentFault::ClientRows)?))
+        }
         None => Ok(None),
     }
 }
 
-/// Reads a number of live leases.
-fn rows_of(alloc: Global, text: &str) -> Result<u32, Failure>
-    ensures { ReadsRows text.now result }
+/// Reads a whole number from 1 to `most`.
+pub fn number_of(alloc: Global, text: &str, most: u64, fault: ArgumentFault) -> Result<u32, Failure>
+    requires { most < 2 ^ 32 }
+    ensures { ReadsUpTo most fault text.now result }
 {
-    match parse_rows(text) {
-        Some(rows) => Ok(rows),
-        None => Err(Failure::of_argument(alloc, text, ArgumentFault::ClientRows)),
-    }
-}
-
-/// Reads a number of live leases: from 1 to 4,096.
-fn parse_rows(text: &str) -> Option<u32>
-    ensures read { IfSome result (λ rows. SpellsNumber text.now rows × IsRows rows) }
-    ensures none { IfNone result ((rows : ℕ) → ¬ (SpellsNumber text.now rows × IsRows rows)) }
-{
-    match parse_number(text.as_bytes()) {
-        Some(number) => rows_within(number),
-        None => None,
-    }
-}
-
-/// Returns the number if a server can have so many live leases.
-fn rows_within(number: u64) -> Option<u32>
-    ensures found { IsSome result ↔ IsRows number }
-    ensures value { IfSome result (λ rows. rows ≡ number) }
-{
-    if 1 <= number && number <= ROWS_MOST as u64 {
-        Some(number as u32)
-    } else {
-        None
-    }
-}
-
-/// Reads a time of at least `least` ms and at most `most` ms.
-pub fn parse_between(text: &str, least: u64, most: u64) -> Option<u64>
-    ensures read { IfSome result (λ time. SpellsTime text.now time × ((least ≤ time) × (time ≤ most))) }
-    ensures none { IfNone result ((time : ℕ) → ¬ (SpellsTime text.now time × ((least ≤ time) × (time ≤ most)))) }
-{
-    match read_duration(text.as_bytes()) {
-        Some(time) => between(time, least, most),
-        None => None,
-    }
-}
-
-/// Returns the time if it is within these limits.
-fn between(time: u64, least: u64, most: u64) -> Option<u64>
-    ensures found { IsSome result ↔ ((least ≤ time) × (time ≤ most)) }
-    ensures value { IfSome result (λ t. t ≡ time) }
-{
-    if least <= time && time <= most {
-        Some(time)
-    } else {
-        None
+    match number_within(text, 1, most) {
+        Some(number) => Ok(number as u32),
+        None => Err(Failure::of_argument(alloc, text, fault)),
     }
 }
 

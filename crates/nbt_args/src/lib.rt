@@ -16,7 +16,7 @@ mod texts;
 mod unit;
 
 pub use admin::{ONCE, TWICE};
-pub use limits::{LimitedArgument, LimitedCommand, bad_value};
+pub use limits::{LimitedArgument, LimitedCommand, WAIT_MOST, bad_value};
 pub use network::GROUP;
 pub use program::no_text;
 pub use refusal::{Refusal, Text};

@@ -18,8 +18,8 @@ use std::fmt;
 /// The greatest time of a server, in milliseconds: the last time of a clock.
 const AT_MOST: u64 = 1 << 60;
 
-/// The longest wait for a reply after the last request, in milliseconds (our profile).
-const WAIT_MOST: u64 = 5_000;
+/// The longest wait for replies after the last request, or after a pass of a scan, in milliseconds (our profile).
+pub const WAIT_MOST: u64 = 5_000;
 
 /// The greatest TTL of a request, in seconds, which has 32 bits (RFC 1002 section 4.2.1.3).
 const TTL_MOST: u64 = 0xFFFF_FFFF;

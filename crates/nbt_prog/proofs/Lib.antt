@@ -1,4 +1,3 @@
 -- What several proofs share; the proof of a function is in the folder of its module and its name.
 mod Ending
 mod Whole
-mod Reading

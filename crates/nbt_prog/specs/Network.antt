@@ -1,12 +1,12 @@
 -- The numbers that texts spell, and the arguments of `serve` and `node` that texts give.
-use Rattle.std.specs.Prelude.{◌≡◌, ◌≤◌, ◌↔◌, ℕ, List, Option, Some, None, codes}
+use Rattle.std.specs.Prelude.{◌≡◌, ◌↔◌, ℕ, List, Option, Some, None, codes}
 use Rattle.std.specs.Borrow.{Bor}
 use Rattle.nbt_name.specs.Wire.{NameValue, IsStar}
 use Rattle.nbt_name.specs.declared.addr.Kind.TheVariants.{Group}
 use Rattle.nbt_lease.specs.Config.{ConfigValue}
 use Rattle.nbt_text.specs.Address.{SpellsAddress}
 use Rattle.nbt_text.specs.NameText.{SpellsName}
-use Rattle.nbt_text.specs.Number.{SpellsNumber}
+use Rattle.nbt_text.specs.Number.{SpellsWithin as NumberWithin}
 use Rattle.nbt_bench.specs.declared.node.NodeArguments.{NodeArguments}
 use Rattle.nbt_bench.specs.declared.serve.ServeArguments.{ServeArguments}
 use Rattle.nbt_args.specs.Limits.{least_of, most_of}
@@ -17,7 +17,7 @@ use Rattle.nbt_args.specs.declared.texts.ServeTexts.{ServeTexts}
 
 -- the text is a number, in digits alone, within the limits that the help states
 abbrev pub SpellsWithin : LimitedArgument → List ℕ → ℕ → Type 0
-SpellsWithin limited text number = SpellsNumber text number × ((least_of limited ≤ number) × (number ≤ most_of limited))
+SpellsWithin limited text number = NumberWithin (least_of limited) (most_of limited) text number
 
 abbrev pub IsWithin : LimitedArgument → List ℕ → Type 0
 IsWithin limited text = (number : ℕ) × SpellsWithin limited text number

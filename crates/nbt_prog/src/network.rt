@@ -6,7 +6,7 @@ ghost use Rattle.nbt_name.specs.declared.addr.Kind.TheVariants.{Group};
 ghost use Rattle.nbt_text.specs.Address.{SpellsAddress};
 ghost use Rattle.nbt_prog.specs.Texts.{IsAddress};
 ghost use Rattle.nbt_prog.specs.Inner.Failure.{UsageFails};
-ghost use Rattle.nbt_prog.specs.Inner.Refusals.{ServeFails, NodeFails, AreLimits, AreTurns, IsHeld};
+ghost use Rattle.nbt_prog.specs.Inner.Refusals.{FirstFault, ServeNumbers, NodeNumbers, AreNodeTexts, AreLimits, AreTurns, IsHeld};
 ghost use Rattle.nbt_prog.specs.Network.{ServeGiven, NodeGiven, IsConfigOf, SpellsTurns, SpellsHeld};
 
 use crate::failure::Failure;
@@ -30,7 +30,7 @@ pub fn serve_arguments<E: Write>(
     errors: &mut E,
 ) -> Result<ServeArguments, Failure>
     ensures given { IfOk result (ServeGiven texts.now) }
-    ensures failure { IfErr result (ServeFails texts.now) }
+    ensures failure { IfErr result (FirstFault (ServeNumbers texts.now) (IsAddress texts.now.bind.now)) }
 {
     let config = config(alloc, LimitedCommand::Serve, texts.life, texts.longest)?;
     let turns = turns(alloc, LimitedCommand::Serve, texts.turns)?;
@@ -49,7 +49,7 @@ pub fn node_arguments<E: Write>(
     errors: &mut E,
 ) -> Result<NodeArguments, Failure>
     ensures given { IfOk result (NodeGiven texts.now) }
-    ensures failure { IfErr result (NodeFails texts.now) }
+    ensures failure { IfErr result (FirstFault (NodeNumbers texts.now) (AreNodeTexts texts.now)) }
 {
     let config = config(alloc, LimitedCommand::Node, texts.life, texts.longest)?;
     let ttl = number(alloc, LimitedCommand::Node, LimitedArgument::Ttl, texts.ttl)? as u32;

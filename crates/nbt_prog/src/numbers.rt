@@ -1,7 +1,6 @@
 //! Reads the numbers of a command line, each within the limits that the help states.
 
-ghost use Rattle.std.specs.Prelude.{◌≡◌, ◌≤◌, ◌↔◌, IfOk, IfErr, IsSome, IfSome};
-ghost use Rattle.nbt_args.specs.Limits.{least_of, most_of};
+ghost use Rattle.std.specs.Prelude.{IfOk, IfErr, IsSome, IfSome};
 ghost use Rattle.nbt_args.specs.declared.limits.LimitedArgument.TheVariants.{At, Port};
 ghost use Rattle.nbt_prog.specs.Inner.Failure.{UsageFails};
 ghost use Rattle.nbt_prog.specs.Network.{IsWithin, SpellsWithin};
@@ -10,7 +9,7 @@ use crate::failure::Failure;
 use nbt_args::{LimitedArgument, LimitedCommand, bad_value};
 use nbt_bench::Ports;
 use nbt_lease::Moment;
-use nbt_text::parse_number;
+use nbt_text::number_within;
 use std::alloc::Global;
 
 /// Reads the time of `answer`, in milliseconds.
@@ -52,20 +51,5 @@ fn parse_within(limited: LimitedArgument, text: &str) -> Option<u64>
     ensures read { IfSome result (SpellsWithin limited text.now) }
     ensures found { IsWithin limited text.now → IsSome result }
 {
-    match parse_number(text.as_bytes()) {
-        Some(number) => within(limited, number),
-        None => None,
-    }
-}
-
-/// Returns the number if it is within its limits.
-fn within(limited: LimitedArgument, number: u64) -> Option<u64>
-    ensures found { IsSome result ↔ ((least_of limited ≤ number) × (number ≤ most_of limited)) }
-    ensures value { IfSome result (λ n. n ≡ number) }
-{
-    if limited.least() <= number && number <= limited.most() {
-        Some(number)
-    } else {
-        None
-    }
+    number_within(text, limited.least(), limited.most())
 }

@@ -26,13 +26,6 @@ AreTurns (Some text) = IsWithin Turns text.now
 abbrev pub ServeNumbers : ServeTexts → Type 0
 ServeNumbers texts = AreLimits texts.life.now texts.longest.now × AreTurns texts.turns
 
--- A number out of its limits is wrong usage, and is found before an address that can't be read; memory may be out at any
--- step.
-abbrev pub ServeFails : ServeTexts → Failure → Type 0
-ServeFails texts failure = (failure ≡ out_of_memory)
-    ⊎ ((¬ ServeNumbers texts × (failure_status failure ≡ 2))
-    ⊎ (ServeNumbers texts × ¬ IsAddress texts.bind.now × (failure ≡ Unreadable)))
-
 abbrev pub NodeNumbers : NodeTexts → Type 0
 NodeNumbers texts = AreLimits texts.life.now texts.longest.now × IsWithin Ttl texts.ttl.now × AreTurns texts.turns
 
@@ -40,11 +33,12 @@ NodeNumbers texts = AreLimits texts.life.now texts.longest.now × IsWithin Ttl t
 abbrev pub AreNodeTexts : NodeTexts → Type 0
 AreNodeTexts texts = IsAddress texts.bind.now × IsAddress texts.server.now × IsHeld texts.name.now
 
--- as of `serve`
-abbrev pub NodeFails : NodeTexts → Failure → Type 0
-NodeFails texts failure = (failure ≡ out_of_memory)
-    ⊎ ((¬ NodeNumbers texts × (failure_status failure ≡ 2))
-    ⊎ (NodeNumbers texts × ¬ AreNodeTexts texts × (failure ≡ Unreadable)))
+-- A number out of its limits is wrong usage, and is found before an address or a name that can't be read; memory may be out
+-- at any step.
+abbrev pub FirstFault : (Numbers Texts : Type 0) → Failure → Type 0
+FirstFault Numbers Texts failure = (failure ≡ out_of_memory)
+    ⊎ ((¬ Numbers × (failure_status failure ≡ 2))
+    ⊎ (Numbers × ¬ Texts × (failure ≡ Unreadable)))
 
 -- how a command line fails on a machine: those that open no socket end by themselves
 abbrev pub FailsOn : CommandLine → Failure → Type 0
