@@ -50,17 +50,24 @@ struct written {
 };
 static struct written out;
 
-/* A call: its word, whose result it has, the letters of what it is given, how much of the stack it may take, and what makes it. */
+/* The groups of calls, and the most of the stack that a call of each may take: here where gcc and clang build for x86-64, and gcc for
+ * aarch64; targets.txt has those of other processors. docs/C.md says what is wished for. */
+enum group { OF_RESULTS, OF_NAMES, OF_TEXTS, OF_NODES, OF_DATAGRAMS, OF_STREAMS, OF_CALLERS, OF_LISTENERS, OF_SERVERS };
+#ifndef STACK_MOST
+#define STACK_MOST 128, 2048, 6144, 2048, 3584, 4608, 4096, 6400, 6400
+#endif
+
+static const char *const GROUPS[] = {"results", "names", "texts", "nodes", "datagrams", "streams", "callers", "listeners", "servers"};
+static const size_t MOST[COUNT(GROUPS)] = {STACK_MOST};
+
+/* A call: its word, whose result it has, the letters of what it is given, its group, and what makes it. */
 struct call {
     const char *word;
     uint8_t calls;
     const char *letters;
-    size_t most;
+    enum group group;
     void (*make)(void);
 };
-
-/* The most of the stack that a call of a group may take. */
-enum { OF_NAMES = 9728, OF_NODES = 2048, OF_SESSIONS = 6656, OF_SERVERS = 9216, OF_DATAGRAMS = 4096, OF_NO_GROUP = 65536 };
 
 /* A part that is a packet is what a later call is given. */
 static uint8_t take(void) {
@@ -85,12 +92,18 @@ static uint8_t listen(void) {
     return nbt_listener_listen(&it.listener, &in.entry);
 }
 
-#define X(word, calls, letters, most, call) \
+/* A size or an alignment is a place. */
+static uint8_t tell_size(size_t size) {
+    out.place = size;
+    return NBT_DONE;
+}
+
+#define X(word, calls, letters, group, call) \
     static void make_##word(void) { out.result = call; }
 #include "calls.txt"
 #undef X
 
-#define X(word, calls, letters, most, call) {#word, NBT_OF_##calls, letters, most, make_##word},
+#define X(word, calls, letters, group, call) {#word, NBT_OF_##calls, letters, group, make_##word},
 static const struct call CALLS[] = {
 #include "calls.txt"
 };

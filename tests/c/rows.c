@@ -57,15 +57,33 @@ static void play_results(void) {
 
 /* ---- the stack */
 
-/* How much of it a call may take on this processor, where gcc and clang for x86-64 make it take 100. */
-#ifndef STACK_PERCENT
-#define STACK_PERCENT 100
-#endif
+static uint8_t stack[65536] __attribute__((aligned(16)));
+static size_t deepest[COUNT(CALLS)]; /* how much each call took at most */
+static bool was_made[COUNT(CALLS)], measures;
 
+/* Runs a function on that stack. */
 #ifdef __linux__
-static uint8_t stack[65536];
-static ucontext_t here, there;
-static bool measures;
+static void run_there(void (*function)(void)) {
+    static ucontext_t here, there;
+    getcontext(&there);
+    there.uc_stack.ss_sp = stack;
+    there.uc_stack.ss_size = sizeof stack;
+    there.uc_link = &here;
+    makecontext(&there, function, 0);
+    swapcontext(&here, &there);
+}
+#elif defined(__arm__)
+static void run_there(void (*function)(void)) {
+    __asm__ volatile("mov r4, sp\n mov sp, %0\n blx %1\n mov sp, r4"
+                     :
+                     : "r"(stack + sizeof stack), "r"(function)
+                     : "r0", "r1", "r2", "r3", "r4", "ip", "lr", "cc", "memory");
+}
+#else
+static void run_there(void (*function)(void)) {
+    function();
+}
+#endif
 
 static void do_nothing(void) {}
 
@@ -73,12 +91,7 @@ static void do_nothing(void) {}
 static size_t taken_by(void (*function)(void)) {
     size_t free = 0;
     memset(stack, PAINT, sizeof stack);
-    getcontext(&there);
-    there.uc_stack.ss_sp = stack;
-    there.uc_stack.ss_size = sizeof stack;
-    there.uc_link = &here;
-    makecontext(&there, function, 0);
-    swapcontext(&here, &there);
+    run_there(function);
     while (free < sizeof stack && stack[free] == PAINT)
         free++;
     return sizeof stack - free;
@@ -90,19 +103,27 @@ static void make(const char *what, const struct call *call) {
         call->make();
         return;
     }
-    const size_t taken = taken_by(call->make) - taken_by(do_nothing), most = call->most * STACK_PERCENT / 100;
+    const size_t taken = taken_by(call->make) - taken_by(do_nothing), most = MOST[call->group];
     if (taken > most)
         printf("%s takes %zu of the stack, not %zu\n", call->word, taken, most);
     row(what, taken <= most && *stack == PAINT);
+    was_made[call - CALLS] = true;
+    if (taken > deepest[call - CALLS])
+        deepest[call - CALLS] = taken;
 }
-#else
-static bool measures;
 
-static void make(const char *what, const struct call *call) {
-    (void)what;
-    call->make();
+/* Says of each group which call took most of the stack. Each call was made. */
+static void say_deepest(void) {
+    for (size_t group = 0; group < COUNT(GROUPS); group++) {
+        size_t most = COUNT(CALLS);
+        for (size_t i = 0; i < COUNT(CALLS); i++)
+            if (CALLS[i].group == group && (most == COUNT(CALLS) || deepest[i] > deepest[most]))
+                most = i;
+        printf("deepest: %s %zu, by nbt_%s\n", GROUPS[group], deepest[most], CALLS[most].word);
+    }
+    for (size_t i = 0; i < COUNT(CALLS); i++)
+        row(CALLS[i].word, was_made[i]);
 }
-#endif
 
 /* ---- calls that are many */
 
@@ -257,6 +278,8 @@ int main(int count, char **words) {
     play_few();
     play_heap();
     OBJECTS(LOOK_AT)
+    if (measures)
+        say_deepest();
     printf("%u passed, %u failed\n", passed, failed);
     return failed != 0;
 }
