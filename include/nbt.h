@@ -1,3 +1,4 @@
+/* SPDX-License-Identifier: MIT OR Apache-2.0 */
 /*
  * nbt: the NetBIOS name, datagram and session services (RFC 1001 and 1002), for programs in C.
  *
@@ -6,9 +7,9 @@
  *
  * What holds of every call:
  *
- *   - A pointer leads to as many octets or values as its parameter says, is aligned for its type and is not null: also where a
- *     length is 0. What it leads to may be written by no one else during the call, and two pointers of one call lead to places
- *     that do not overlap where one of them isn't const. The caller must ensure it; nothing tests it.
+ *   - A pointer leads to as many octets or values as its parameter says, is aligned for its type and is not null. None may be
+ *     null: also where a length or a room is 0. What it leads to may be written by no one else during the call, and two pointers of
+ *     one call lead to places that do not overlap where one of them isn't const. The caller must ensure it; nothing tests it.
  *   - No two calls run at the same time with the same object, also where it is const: a program with threads has one lock for each
  *     object. A const pointer to an object says that the object stays as it is.
  *   - Numbers may be any: each length, place and count is tested.
@@ -217,17 +218,10 @@ enum {
 #endif
 
 /*
- * A node: `memory` leads to nbt_node_size() octets, aligned to nbt_node_align(), which are the node's from its start on and which
- * no one else reads or writes. The program sets `memory` before the start, copies no struct nbt_node, and may let the memory go at
- * any time, once it calls nothing more with the node. All other calls are for a node that was started.
- *
- * Times, `now`, are milliseconds of a monotonic clock, as CLOCK_MONOTONIC: 0 to 2^60.
+ * A node's memory: what the two functions return, and a type of that size and alignment, so that it can be static. Each object's memory
+ * has a type of its own: another's in its place is an error in C++, and by gcc from 14 and clang from 16 on in C, or with
+ * -Werror=incompatible-pointer-types. Octets that a program gets elsewhere, of that size and alignment, it casts.
  */
-struct nbt_node {
-    void *memory;
-};
-
-/* A node's memory: what the two functions return, and a type of that size and alignment, so that it can be static. */
 #if NBT_NODE_NAMES == 14
 #define NBT_NODE_SIZE 4944
 #elif NBT_NODE_NAMES == 4
@@ -247,10 +241,25 @@ union nbt_node_memory {
     uint8_t octets[NBT_NODE_SIZE];
 };
 NBT_ASSERT(sizeof(union nbt_node_memory) == NBT_NODE_SIZE, "nbt: union nbt_node_memory");
+
+/*
+ * A node: `memory` leads to nbt_node_size() octets, aligned to nbt_node_align(), which are the node's from its start on and which
+ * no one else reads or writes. The program sets `memory` before the start, copies no struct nbt_node, and may let the memory go at
+ * any time, once it calls nothing more with the node. All other calls are for a node that was started.
+ *
+ * Times, `now`, are milliseconds of a monotonic clock, as CLOCK_MONOTONIC: 0 to 2^60.
+ */
+struct nbt_node {
+    union nbt_node_memory *memory;
+};
 size_t nbt_node_size(void);
 size_t nbt_node_align(void);
 
-/* A node at `own` whose name server is at `server`. NBT_CONFIG_*; NBT_NO_MOMENT. */
+/*
+ * A node at `own` whose name server is at `server`: both with the port of names, mostly 137, and not with that of datagrams. After the
+ * device's address or its server changed, or its clock stood while it slept, it is started anew in the same memory, and its names are
+ * requested anew; a network that was away for a while needs nothing. NBT_CONFIG_*; NBT_NO_MOMENT.
+ */
 uint8_t nbt_node_start(struct nbt_node *node, struct nbt_addr own, struct nbt_addr server, struct nbt_config config, uint64_t now);
 
 /* The same, but the ids of the node's requests count from `first_id`, and not from 1. Pass one that differs from start to start, as a
@@ -292,8 +301,8 @@ struct nbt_event {
     uint8_t kind;
     uint8_t rcode;        /* of REFUSED, LOST, FREED and NOT_FOUND: the server's reason (RFC 1002 section 4.2.6) */
     bool cut;             /* of FOUND: the name has more entries than these */
-    uint32_t seconds;     /* of GRANTED and RENEWED */
-    NBT_SIZE(size);       /* of FOUND: the octets of its entries, 6 each; of STATUS: of its names, 18 each */
+    uint32_t seconds;     /* of GRANTED and RENEWED: for how long; of 0 or more than `longest` from the server it is `longest` */
+    NBT_SIZE(size);       /* of FOUND: the octets of its entries, 6 each; of STATUS: of its names, 18 each; all, also what is not lent */
     struct nbt_name name; /* of all but NOTHING: the name that the datagram is about; zeros where a NOT_FOUND has none */
 };
 NBT_ASSERT(sizeof(struct nbt_event) == 256 && offsetof(struct nbt_event, name) == 16, "nbt: struct nbt_event");
@@ -316,6 +325,14 @@ enum {
  * Handles a datagram that came from `from`, and answers a status request, or a query for a name that the node holds then (RFC 1002
  * section 4.2.13). Writes *event; the first octets of its entries or names, as many as fit, to `lent`; and *size: how many octets of
  * `out` are a reply to `from`, or 0. NBT_NO_MOMENT; NBT_CLOCK_BACK.
+ *
+ * Why a name comes and goes: `seconds` of GRANTED below what was asked for, which is the node's `longest` where that was 0, says that
+ * the server's longest lease is shorter than the node's, though both are to be the same. Where the seconds are no more than some two
+ * `life`, the hold ends before a refresh may be sent: the state goes from HELD to RESTING or IDLE each time, without an event. That the
+ * server's longest lease is greater doesn't show.
+ *
+ * An entry of FOUND is two octets of flags, of which the first bit says that a group has the name, and four of an address, as 10 0 0 5
+ * (RFC 1002 section 4.2.13); a name of STATUS sixteen octets, and two of flags (section 4.2.18).
  */
 uint8_t nbt_node_on_datagram(struct nbt_node *node, uint64_t now, struct nbt_addr from, const uint8_t *octets, size_t octets_size,
                              struct nbt_event *event, uint8_t *lent, size_t lent_room, uint8_t out[NBT_PACKET], size_t *size);
@@ -350,14 +367,6 @@ uint8_t nbt_node_holds(const struct nbt_node *node, uint64_t now, const struct n
 
 /* ---- datagrams (RFC 1001 section 17, RFC 1002 sections 4.4 and 5.3): they take no memory but what the program provides */
 
-/*
- * A joiner of 4 slots: the fragments of up to four unfinished datagrams, which are given up after 2 seconds. `memory` is like a
- * node's, with the size and alignment below. It takes no other memory.
- */
-struct nbt_joiner {
-    void *memory;
-};
-
 /* A joiner's memory: what the two functions return, and a type of that size and alignment, so that it can be static. */
 #define NBT_JOINER_SIZE 6344
 #define NBT_JOINER_ALIGN 8
@@ -366,6 +375,14 @@ union nbt_joiner_memory {
     uint8_t octets[NBT_JOINER_SIZE];
 };
 NBT_ASSERT(sizeof(union nbt_joiner_memory) == NBT_JOINER_SIZE, "nbt: union nbt_joiner_memory");
+
+/*
+ * A joiner of 4 slots: the fragments of up to four unfinished datagrams, which are given up after 2 seconds. `memory` is like a
+ * node's, with the size and alignment above. It takes no other memory.
+ */
+struct nbt_joiner {
+    union nbt_joiner_memory *memory;
+};
 size_t nbt_joiner_size(void);
 size_t nbt_joiner_align(void);
 void nbt_joiner_start(struct nbt_joiner *joiner);
@@ -448,7 +465,8 @@ enum {
 };
 
 /*
- * The one or two packets that carry `data` from `source`, whose datagrams come to `own`, to `destination` (RFC 1002 section 5.3.2):
+ * The one or two packets that carry `data` from `source`, whose datagrams come to `own`, to `destination` (RFC 1002 section 5.3.2). The
+ * port of `own` is that of datagrams, mostly 138. They go to that port of the machine that has `destination`, which a lookup finds:
  * `kind` is NBT_DATAGRAM_UNIQUE, GROUP or BROADCAST, and `id` tells one datagram of a source from another. Writes *first_size and
  * *second_size: how many octets of each are a packet to be sent; the second is 0 where all fit into one packet, and both are
  * where the result isn't 0. NBT_NO_NAME; NBT_NO_KIND; NBT_SPLIT_TOO_LONG.
@@ -494,15 +512,6 @@ enum {
     NBT_PART_PACKET = 4   /* a packet that is no message */
 };
 
-/*
- * The stream of a TCP connection as it comes in, in pieces of any size. It holds no message: a program gets its octets as they come.
- * `memory` is like a node's, with the size and alignment below; for another connection, another struct may begin there. It takes no
- * other memory.
- */
-struct nbt_pieces {
-    void *memory;
-};
-
 /* A stream's memory: what the two functions return, and a type of that size and alignment, so that it can be static. */
 #define NBT_PIECES_SIZE 584
 #define NBT_PIECES_ALIGN 8
@@ -511,6 +520,15 @@ union nbt_pieces_memory {
     uint8_t octets[NBT_PIECES_SIZE];
 };
 NBT_ASSERT(sizeof(union nbt_pieces_memory) == NBT_PIECES_SIZE, "nbt: union nbt_pieces_memory");
+
+/*
+ * The stream of a TCP connection as it comes in, in pieces of any size. It holds no message: a program gets its octets as they come.
+ * `memory` is like a node's, with the size and alignment above; for another connection, another struct may begin there. It takes no
+ * other memory.
+ */
+struct nbt_pieces {
+    union nbt_pieces_memory *memory;
+};
 size_t nbt_pieces_size(void);
 size_t nbt_pieces_align(void);
 void nbt_pieces_start(struct nbt_pieces *pieces);
@@ -549,11 +567,6 @@ uint8_t nbt_session_write(const struct nbt_session_packet *packet, uint8_t out[N
 
 /* ---- the calling endpoint of a session (RFC 1001 section 16.1, RFC 1002 section 5.2.1) */
 
-/* One call to a name, by a name. `memory` is like a node's, with the size and alignment below. It takes no other memory. */
-struct nbt_caller {
-    void *memory;
-};
-
 /* A call's memory: what the two functions return, and a type of that size and alignment, so that it can be static. */
 #define NBT_CALLER_SIZE 512
 #define NBT_CALLER_ALIGN 8
@@ -562,10 +575,18 @@ union nbt_caller_memory {
     uint8_t octets[NBT_CALLER_SIZE];
 };
 NBT_ASSERT(sizeof(union nbt_caller_memory) == NBT_CALLER_SIZE, "nbt: union nbt_caller_memory");
+
+/* One call to a name, by a name. `memory` is like a node's, with the size and alignment above. It takes no other memory. */
+struct nbt_caller {
+    union nbt_caller_memory *memory;
+};
 size_t nbt_caller_size(void);
 size_t nbt_caller_align(void);
 
-/* Begins a call; the program connects to `to`: the first of four tries. NBT_NO_NAME. */
+/*
+ * Begins a call; the program connects to `to`: the first of four tries. It starts a stream for each connection (nbt_pieces_start), and tells
+ * nbt_caller_on whether it stands, or is lost. A call that failed, or whose session is over, is begun anew in the same memory. NBT_NO_NAME.
+ */
 uint8_t nbt_caller_begin(struct nbt_caller *caller, const struct nbt_name *called, const struct nbt_name *calling, struct nbt_addr to);
 
 /* What happens to a connection. */
@@ -586,7 +607,7 @@ NBT_ASSERT(sizeof(struct nbt_answer) == 12 && offsetof(struct nbt_answer, to) ==
 
 enum {
     NBT_ANSWER_NOTHING = 0,
-    NBT_ANSWER_CONNECT = 1, /* connects there; an earlier connection is given up */
+    NBT_ANSWER_CONNECT = 1, /* connects there, mostly to port 139; an earlier connection is given up, and the new one's stream started */
     NBT_ANSWER_SEND = 2,    /* sends what stands in `out` */
     NBT_ANSWER_OPEN = 3,    /* the session is open */
     NBT_ANSWER_UP = 4,      /* the message is for the user */
@@ -614,14 +635,6 @@ uint8_t nbt_caller_on(struct nbt_caller *caller, uint8_t happened, const struct 
 
 /* ---- the listening endpoint (RFC 1001 section 16.1.1, RFC 1002 section 5.2.1) */
 
-/*
- * A listener of 14 entries and 8 connections, numbered 0 to 7. `memory` is like a node's, with the size and alignment below. It takes
- * no other memory.
- */
-struct nbt_listener {
-    void *memory;
-};
-
 /* A listener's memory: what the two functions return, and a type of that size and alignment, so that it can be static. */
 #define NBT_LISTENER_SIZE 7416
 #define NBT_LISTENER_ALIGN 8
@@ -630,6 +643,14 @@ union nbt_listener_memory {
     uint8_t octets[NBT_LISTENER_SIZE];
 };
 NBT_ASSERT(sizeof(union nbt_listener_memory) == NBT_LISTENER_SIZE, "nbt: union nbt_listener_memory");
+
+/*
+ * A listener of 14 entries and 8 connections, numbered 0 to 7. `memory` is like a node's, with the size and alignment above. It takes
+ * no other memory.
+ */
+struct nbt_listener {
+    union nbt_listener_memory *memory;
+};
 size_t nbt_listener_size(void);
 size_t nbt_listener_align(void);
 
@@ -663,17 +684,6 @@ uint8_t nbt_listener_on(struct nbt_listener *listener, const struct nbt_node *no
 
 /* ---- a name server (RFC 1001 section 15.1.7, RFC 1002 section 5.1.4) */
 
-/*
- * A server: `memory` leads to nbt_server_size() octets, aligned to nbt_server_align(), which are the server's from its start to its
- * end and which no one else reads or writes. The program sets `memory` before the start and copies no struct nbt_server. For its
- * leases the server calls malloc and realloc, which align as C says, and free: nbt_server_on_datagram does, and nbt_server_row
- * while it runs; nbt_server_end frees all. None of these calls is made from a signal handler. All other
- * calls are for a server that was started and has not ended.
- */
-struct nbt_server {
-    void *memory;
-};
-
 /* A server's memory: what the two functions return, and a type of that size and alignment, so that it can be static. */
 #define NBT_SERVER_SIZE 320
 #define NBT_SERVER_ALIGN 8
@@ -682,6 +692,17 @@ union nbt_server_memory {
     uint8_t octets[NBT_SERVER_SIZE];
 };
 NBT_ASSERT(sizeof(union nbt_server_memory) == NBT_SERVER_SIZE, "nbt: union nbt_server_memory");
+
+/*
+ * A server: `memory` leads to nbt_server_size() octets, aligned to nbt_server_align(), which are the server's from its start to its
+ * end and which no one else reads or writes. The program sets `memory` before the start and copies no struct nbt_server. For its
+ * leases the server calls malloc and realloc, which align as C says, and free: nbt_server_on_datagram does, and nbt_server_row
+ * while it runs; nbt_server_end frees all. None of these calls is made from a signal handler. All other
+ * calls are for a server that was started and has not ended.
+ */
+struct nbt_server {
+    union nbt_server_memory *memory;
+};
 size_t nbt_server_size(void);
 size_t nbt_server_align(void);
 
