@@ -1,3 +1,4 @@
+/* SPDX-License-Identifier: MIT OR Apache-2.0 */
 /*
  * The three functions by which the library's name server asks the C library for memory, for a processor for which the Rattle kit has
  * none that are built. The kit declares them, and says what it takes of them as true, in src/heap.rt of its library libc. Built by

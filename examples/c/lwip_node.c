@@ -1,3 +1,4 @@
+/* SPDX-License-Identifier: MIT OR Apache-2.0 */
 /*
  * A node over lwIP's raw UDP calls and its timers, as a device has it: registers a name at a name server, holds it, answers
  * queries and status requests, and releases it. examples/c/node.c is the same over sockets. Its memory is static, and it calls no malloc;

@@ -1,3 +1,4 @@
+/* SPDX-License-Identifier: MIT OR Apache-2.0 */
 /*
  * A node: registers a name at a name server, holds it, answers queries and status requests, and releases the name at SIGINT or SIGTERM.
  *

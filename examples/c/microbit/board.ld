@@ -1,3 +1,4 @@
+/* SPDX-License-Identifier: MIT OR Apache-2.0 */
 /* The nRF51 of a micro:bit: 256 KB of flash and 16 KB of RAM, of which the stack has the rest. */
 MEMORY {
     FLASH (rx) : ORIGIN = 0x00000000, LENGTH = 256K

@@ -1,3 +1,4 @@
+/* SPDX-License-Identifier: MIT OR Apache-2.0 */
 /*
  * A node without an operating system, on a Cortex-M0 with 16 KB of RAM: the nRF51 of a micro:bit, as qemu has it. It registers a name at a
  * name server, holds it, answers queries and status requests, and releases it when it is told to.

@@ -1,3 +1,4 @@
+/* SPDX-License-Identifier: MIT OR Apache-2.0 */
 /* lwIP without a system and with its own pools, for a device with 128 KB of RAM. The node has one timer. */
 #define NO_SYS 1
 #define SYS_LIGHTWEIGHT_PROT 0

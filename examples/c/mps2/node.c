@@ -1,3 +1,4 @@
+/* SPDX-License-Identifier: MIT OR Apache-2.0 */
 /*
  * The node of lwip_node.c on a Cortex-M4 without an operating system: the board MPS2 with the image AN386, as qemu has it, with its serial
  * line, its clock, and its network chip, a LAN9118. LWIP is a folder with the sources of lwIP 2.1, as Debian's source package lwip has them:

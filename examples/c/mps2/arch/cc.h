@@ -1,3 +1,4 @@
+/* SPDX-License-Identifier: MIT OR Apache-2.0 */
 /* What lwIP wants to know of the compiler: nothing but where its complaints go. */
 #include <stdio.h>
 #include <stdlib.h>
