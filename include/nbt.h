@@ -219,8 +219,8 @@ enum {
 
 /*
  * A node's memory: what the two functions return, and a type of that size and alignment, so that it can be static. Each object's memory
- * has a type of its own: another's in its place is an error in C++, and by gcc from 14 and clang from 16 on in C, or with
- * -Werror=incompatible-pointer-types. Octets that a program gets elsewhere, of that size and alignment, it casts.
+ * has a type of its own. Another's in its place is an error in C++; in C compilers warn, and with -Werror=incompatible-pointer-types, which
+ * gcc has by itself from 14 on, it is one too. Octets that a program gets elsewhere, of that size and alignment, it casts.
  */
 #if NBT_NODE_NAMES == 14
 #define NBT_NODE_SIZE 4944
@@ -466,7 +466,7 @@ enum {
 
 /*
  * The one or two packets that carry `data` from `source`, whose datagrams come to `own`, to `destination` (RFC 1002 section 5.3.2). The
- * port of `own` is that of datagrams, mostly 138. They go to that port of the machine that has `destination`, which a lookup finds:
+ * port of `own` is that of datagrams, mostly 138. They go to that port of each machine that has `destination`, which a lookup finds:
  * `kind` is NBT_DATAGRAM_UNIQUE, GROUP or BROADCAST, and `id` tells one datagram of a source from another. Writes *first_size and
  * *second_size: how many octets of each are a packet to be sent; the second is 0 where all fit into one packet, and both are
  * where the result isn't 0. NBT_NO_NAME; NBT_NO_KIND; NBT_SPLIT_TOO_LONG.
@@ -676,8 +676,9 @@ uint8_t nbt_listener_unlisten(struct nbt_listener *listener, const struct nbt_na
 /*
  * What the listener does when something happens to a connection, by the names that the node holds at `now`: `happened` and `packet`
  * are as for nbt_caller_on. Writes *kind: NBT_ANSWER_NOTHING, SEND, UP, SEND_AND_CLOSE or CLOSE; and *size: how many octets of `out`
- * are to be sent, or 0. The node stays. Refused, the listener staying as it was, and *kind being NOTHING: NBT_NO_MOMENT;
- * NBT_NO_PLACE where `slot` is above 7; NBT_NO_KIND; NBT_NO_NAME.
+ * are to be sent, or 0. The node stays. A connection begins with NBT_CONNECTED at a slot that is free: at first, and after NBT_LOST, CLOSE
+ * or SEND_AND_CLOSE. Its stream is started then, also where a machine connects again. Refused, the listener staying as it was, and *kind
+ * being NOTHING: NBT_NO_MOMENT; NBT_NO_PLACE where `slot` is above 7; NBT_NO_KIND; NBT_NO_NAME.
  */
 uint8_t nbt_listener_on(struct nbt_listener *listener, const struct nbt_node *node, uint64_t now, size_t slot, uint8_t happened,
                         const struct nbt_session_packet *packet, uint8_t *kind, uint8_t out[NBT_PACKET], size_t *size);
