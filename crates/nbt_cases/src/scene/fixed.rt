@@ -4,8 +4,7 @@ use crate::scene::kept::kept_leases;
 use crate::scene::script::Scene;
 use crate::scene::stage::Stage;
 use nbt_front::{FileFault, FixedNames, read_fixed};
-use nbt_log::{write_dotted, write_word};
-use nbt_text::{Case, read_name};
+use nbt_text::{Case, read_name, write_dotted, write_word};
 use std::alloc::{AllocError, Global};
 
 /// Prints how many names the file of a scene has, then each lease that is kept and stands in the way of one, and then what is fixed of each
