@@ -1,0 +1,4 @@
+pub mod Firsts
+pub mod Inquiries
+pub mod Waiting
+pub mod Further
