@@ -1,13 +1,14 @@
 //! Runs one command of `nbt`, with the program's arguments and over its standard input, output and error.
 #![tactic(auto)]
 
-use nbt_admin::{FirstLineWriter, LossyWriter};
+use nbt_admin::{FirstLineWriter, JournalWriter, Lines, LossyWriter};
 use std::env::Env;
 use std::io::{IsTerminal, Write};
 use std::os::fd::AsFd;
+use std::os::unix::fs::MetadataExt;
 use std::os::unix::net::UnixStream;
 use std::process::ExitCode;
-use std::{env, io};
+use std::{env, fs, io};
 
 fn arguments(rt: &(impl Env + AllocGlobal)) -> io::Result<Vec<String>> {
     Ok(env::args(rt)?.collect(rt.alloc())?)
@@ -51,19 +52,63 @@ fn set_waiting<S: AsFd + IsTerminal>(stream: &S, waits: bool) -> io::Result<()> 
     UnixStream::from(same).set_nonblocking(!waits)
 }
 
-/// Runs the command, and prints its output here.
-fn run<W: Write>(rt: &HostRuntime, arguments: &[String], writer: &mut W) -> u8 {
-    let mut reader = rt.reader();
-    let mut errors = rt.stderr();
-    nbt_prog::command_telling(rt, rt.alloc(), arguments, &mut reader, writer, &mut errors)
+/// What says which file a stream of a service is open on, where that is the journal: its device and its inode (systemd.exec(5)).
+const JOURNAL: &str = "JOURNAL_STREAM";
+
+/// Whether the file at this path is the journal.
+fn is_journal(rt: &HostRuntime, path: &str) -> bool {
+    let Ok(journal) = env::var(rt, JOURNAL) else {
+        return false;
+    };
+    match mark_of(rt, path) {
+        Ok(mark) => mark.as_str() == journal.as_str(),
+        Err(_) => false,
+    }
 }
 
-/// The same of a command that goes on while the reader of what it prints is slow. What waits for that reader at its end is handed on, as
-/// far as there is room. Both streams wait again then, since another program may write there next.
+/// The device and the inode of the file at this path, as the journal's are written.
+fn mark_of(rt: &HostRuntime, path: &str) -> io::Result<String> {
+    let metadata = fs::metadata(rt, path)?;
+    let device = metadata.dev();
+    let inode = metadata.ino();
+    Ok(format!(in rt.alloc(); "{device}:{inode}")?)
+}
+
+/// Runs the command, and prints its output here.
+fn run<W: Write, E: Write>(
+    rt: &HostRuntime,
+    arguments: &[String],
+    writer: &mut W,
+    errors: &mut E,
+) -> u8 {
+    let mut reader = rt.reader();
+    nbt_prog::command_telling(rt, rt.alloc(), arguments, &mut reader, writer, errors)
+}
+
+/// The same of a command that goes on while the reader of what it prints is slow, and says to a journal how urgent each line is.
+fn run_service<W: Write + Drop>(rt: &HostRuntime, arguments: &[String], writer: W) -> u8 {
+    let alloc = rt.alloc();
+    if is_journal(rt, "/proc/self/fd/1") {
+        let mut writer = JournalWriter::new(alloc, Lines::Output, writer);
+        run_on(rt, arguments, &mut writer)
+    } else {
+        let mut writer = writer;
+        run_on(rt, arguments, &mut writer)
+    }
+}
+
+/// The same with this output. What waits for its reader at its end is handed on, as far as there is room. Both streams wait again then, since
+/// another program may write there next.
 fn run_on<W: Write>(rt: &HostRuntime, arguments: &[String], writer: &mut W) -> u8 {
     let _ = set_waiting(&rt.stdout(), false);
     let _ = set_waiting(&rt.stderr(), false);
-    let status = run(rt, arguments, writer);
+    let status = if is_journal(rt, "/proc/self/fd/2") {
+        let mut errors = JournalWriter::new(rt.alloc(), Lines::Errors, rt.stderr());
+        run(rt, arguments, writer, &mut errors)
+    } else {
+        let mut errors = rt.stderr();
+        run(rt, arguments, writer, &mut errors)
+    };
     let _ = writer.flush();
     let _ = set_waiting(&rt.stdout(), true);
     let _ = set_waiting(&rt.stderr(), true);
@@ -85,13 +130,12 @@ fn main(rt: HostRuntime) -> ExitCode {
     let arguments = arguments.as_slice();
     let status = match word_of(arguments) {
         // Its log drops lines itself.
-        "nbns" => run_on(
-            &rt,
-            arguments,
-            &mut FirstLineWriter::new(rt.alloc(), writer),
-        ),
-        "host" => run_on(&rt, arguments, &mut LossyWriter::new(rt.alloc(), writer)),
-        _ => run(&rt, arguments, &mut writer),
+        "nbns" => run_service(&rt, arguments, FirstLineWriter::new(rt.alloc(), writer)),
+        "host" => run_service(&rt, arguments, LossyWriter::new(rt.alloc(), writer)),
+        _ => {
+            let mut errors = rt.stderr();
+            run(&rt, arguments, &mut writer, &mut errors)
+        }
     };
     ExitCode::from(status)
 }

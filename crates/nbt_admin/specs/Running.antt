@@ -1,5 +1,5 @@
 -- What a command for people who run a network does on this machine, what it prints, its status, and how it fails (our profile).
-use Rattle.std.specs.Prelude.{◌≡◌, ◌⊎◌, ℕ, nat_lt, Bool, if◌then◌else◌, List, length, Option, Ok, Err}
+use Rattle.std.specs.Prelude.{◌≡◌, ◌⊎◌, ℕ, nat_lt, Bool, true, false, if◌then◌else◌, List, length, Option, Ok, Err}
 use Rattle.std.specs.Io.KnownBytes.{Appends}
 use Rattle.nbt_args.specs.declared.texts.AdminLine.{AdminLine}
 use Rattle.nbt_args.specs.declared.texts.AdminLine.TheVariants.{Lookup, Status, Nbns, Host, Release, Scan}
@@ -8,7 +8,9 @@ use Rattle.nbt_client.specs.Asking.{AsksHere}
 use Rattle.nbt_client.specs.declared.answer.Answer.{Answer}
 use Rattle.nbt_host.specs.Running.{HostsHere}
 use Rattle.nbt_host.specs.declared.arguments.HostArguments.{HostArguments}
-use Rattle.nbt_nbns.specs.Servers.{RunsServer}
+use Rattle.nbt_nbns.specs.Checking.{ChecksServer}
+use Rattle.nbt_nbns.specs.Servers.{EndsServer, folder_status}
+use Rattle.nbt_nbns.specs.declared.server.Folder.{Folder}
 use Rattle.nbt_nbns.specs.declared.arguments.ServerArguments.{ServerArguments}
 use Rattle.nbt_admin.specs.Asking.{ReadsLookup, ReadsStatus}
 use Rattle.nbt_admin.specs.Hosting.{ReadsHost, ReadsRelease}
@@ -49,6 +51,22 @@ pub record ReleasedHere (a : HostArguments) (status : ℕ) (old_text text : Opti
 abbrev pub with_fixed : FixedNames → ServerArguments → ServerArguments
 with_fixed names a = record a { nbns = record a.nbns { front = record a.nbns.front { fixed = names } } }
 
+-- A name server ended so, or didn't begin since another one has its folder, which the status says.
+pub record EndedHere (a : ServerArguments) (status : ℕ) (old_text text : Option (List ℕ)) : Type 0 where
+  pub folder : Folder
+  pub ends : EndsServer a folder old_text text
+  pub status_is : status ≡ folder_status folder
+
+-- It was only said what it would do.
+pub record CheckedHere (a : ServerArguments) (status : ℕ) (old_text text : Option (List ℕ)) : Type 0 where
+  pub folder : Folder
+  pub checks : ChecksServer a folder old_text text
+  pub status_is : status ≡ folder_status folder
+
+abbrev pub ServedHere : ServerArguments → (check : Bool) → (status : ℕ) → (old_text text : Option (List ℕ)) → Type 0
+ServedHere a false status old_text text = EndedHere a status old_text text
+ServedHere a true status old_text text = CheckedHere a status old_text text
+
 -- The addresses were asked, and the status says whether any replied.
 pub record ScannedHere (a : ScanArguments) (status : ℕ) (old_text text : Option (List ℕ)) : Type 0 where
   pub any : Bool
@@ -59,7 +77,7 @@ pub record ScannedHere (a : ScanArguments) (status : ℕ) (old_text text : Optio
 abbrev pub Runs : AdminLine → (status : ℕ) → (old_text text : Option (List ℕ)) → Type 0
 Runs (Lookup texts) status old_text text = (a : AskArguments) × ReadsLookup texts (Ok a) × AskedHere a status old_text text
 Runs (Status texts) status old_text text = (requests : List HostAsked) × ReadsStatus texts (Ok requests) × AskedInTurn (nat_lt 1 (length requests)) requests status old_text text
-Runs (Nbns texts) status old_text text = (a : ServerArguments) × ReadsServer texts (Ok a) × (names : FixedNames) × GivesFixed texts.fixed names × (status ≡ 0) × RunsServer (with_fixed names a) old_text text
+Runs (Nbns texts) status old_text text = (a : ServerArguments) × ReadsServer texts (Ok a) × (names : FixedNames) × GivesFixed texts.fixed names × ServedHere (with_fixed names a) texts.check status old_text text
 Runs (Host texts) status old_text text = (a : HostArguments) × ReadsHost texts (Ok a) × HostedHere a status old_text text
 Runs (Release texts) status old_text text = (a : HostArguments) × ReadsRelease texts (Ok a) × ReleasedHere a status old_text text
 Runs (Scan texts) status old_text text = (a : ScanArguments) × ReadsScan texts (Ok a) × ScannedHere a status old_text text

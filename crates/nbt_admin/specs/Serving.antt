@@ -15,8 +15,8 @@ use Rattle.nbt_args.specs.declared.texts.NbnsTexts.{NbnsTexts}
 use Rattle.std.specs.Result.{MatchResult}
 use Rattle.nbt_admin.specs.Failures.{Reports, IsBad, out_of_memory}
 use Rattle.nbt_admin.specs.Reading.{Reads, Where, Then, Each, Fits, Gives, Makes, IfGiven}
-use Rattle.nbt_admin.specs.Texts.{ReadsAddress}
-use Rattle.nbt_admin.specs.Times.{ReadsConfig, ReadsTime, NeedsFit, ReadsUpTo, client_rows}
+use Rattle.nbt_admin.specs.Texts.{ReadsHere}
+use Rattle.nbt_admin.specs.Times.{ReadsConfig, ReadsTime, NeedsFit, ReadsChanges, ReadsUpTo, client_changes, client_rows}
 use Rattle.nbt_admin.specs.declared.failure.ArgumentFault.{ArgumentFault}
 use Rattle.nbt_admin.specs.declared.failure.ArgumentFault.TheVariants as w
 use Rattle.nbt_admin.specs.declared.failure.Failure.{Failure}
@@ -28,9 +28,9 @@ use Rattle.nbt_admin.specs.declared.serving.Files.{Files}
 abbrev pub name_port : ℕ
 name_port = 137
 
--- an address that none before it is
+-- an address of this machine that none before it is
 abbrev pub ReadsNext : (before : List Addr) → Bor (List ℕ) → Result Addr Failure → Type 0
-ReadsNext before text = Where (ReadsAddress text.now) (λ address. ¬ Any (λ other. other ≡ address) before) (Reports text.now w.AddressTwice)
+ReadsNext before text = Where (ReadsHere text.now) (λ address. ¬ Any (λ other. other ≡ address) before) (Reports text.now w.AddressTwice)
 
 -- without an address, each of the machine
 pub data IsBind (addresses : List Addr) : Bind → Type 0 where
@@ -110,6 +110,7 @@ ReadsNbns texts allowed = Then (ReadsConfig texts.life.now texts.longest.now) (�
     Then (ReadsFiles texts) (λ files.
     Then (NeedsFree texts) (λ _.
     Then (IfGiven (ReadsUpTo rows_most w.ClientRows) texts.rows_per_client) (λ rows.
+    Then (IfGiven ReadsChanges texts.changes_per_client) (λ changes.
     Gives (record {
       nbns = record {
         bind = bind;
@@ -122,10 +123,11 @@ ReadsNbns texts allowed = Then (ReadsConfig texts.life.now texts.longest.now) (�
         stats = files.stats;
         strict = texts.strict;
         rows_per_client = unwrap_or rows client_rows;
+        changes_per_client = unwrap_or changes client_changes;
         front = record { allowed = allowed; fixed = []; longest = config.longest };
       };
       state = state;
-    })))))))))
+    }))))))))))
 
 -- the networks come first, and then the path of the file of fixed names
 abbrev pub ReadsServer : NbnsTexts → Result ServerArguments Failure → Type 0

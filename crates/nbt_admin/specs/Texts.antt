@@ -19,14 +19,22 @@ use Rattle.nbt_admin.specs.declared.failure.ArgumentFault.TheVariants as w
 abbrev pub ReadsAddress : List ℕ → Result Addr Failure → Type 0
 ReadsAddress text = Reads (SpellsEnd text) (Reports text w.Address)
 
--- an address from which requests are sent
-abbrev pub ReadsSource : List ℕ → Result Addr Failure → Type 0
-ReadsSource text = Reads (SpellsSource text) (Reports text w.Address)
-
--- The address of one machine isn't 0.0.0.0, nor a multicast address, 224.0.0.0 to 239.255.255.255 (RFC 1112 section 4), nor 255.255.255.255,
--- which is for all machines of a network (RFC 919 section 7).
+-- The address of one machine isn't of 0.0.0.0/8 (RFC 1122 section 3.2.1.3), nor a multicast address, 224.0.0.0 to 239.255.255.255 (RFC 1112
+-- section 4), nor 255.255.255.255, which is for all machines of a network (RFC 919 section 7).
 abbrev pub IsOfOne : (ip : ℕ) → Type 0
-IsOfOne ip = (ip ≢ 0) × (((ip < 0xE0000000) ⊎ (0xF0000000 ≤ ip)) × (ip ≢ 0xFFFFFFFF))
+IsOfOne ip = (0x01000000 ≤ ip) × (((ip < 0xE0000000) ⊎ (0xF0000000 ≤ ip)) × (ip ≢ 0xFFFFFFFF))
+
+-- an address of this machine: of one machine, or 0.0.0.0, which stands for each that this machine has
+abbrev pub IsOfHere : (ip : ℕ) → Type 0
+IsOfHere ip = (ip ≡ 0) ⊎ IsOfOne ip
+
+-- an address of this machine from which requests are sent
+abbrev pub ReadsSource : List ℕ → Result Addr Failure → Type 0
+ReadsSource text = Where (Reads (SpellsSource text) (Reports text w.Address)) (λ source. IsOfHere source.ip) (Reports text w.NotOne)
+
+-- an address of this machine at which requests come
+abbrev pub ReadsHere : List ℕ → Result Addr Failure → Type 0
+ReadsHere text = Where (ReadsAddress text) (λ here. IsOfHere here.ip) (Reports text w.NotOne)
 
 -- each address from the first to the last is of one machine
 abbrev pub AreOfOne : (first last : ℕ) → Type 0

@@ -72,3 +72,13 @@ NeedsFit config = Needs (judged config ≢ Short) (λ failure. failure ≡ Compl
 -- without a text
 abbrev pub client_rows : ℕ
 client_rows = 64
+
+-- ---- how many changes a client of a server may make in a second
+
+-- a number, 0 for any
+abbrev pub ReadsChanges : List ℕ → Result ℕ Failure → Type 0
+ReadsChanges text = Reads (SpellsWithin 0 1000000 text) (Reports text w.ClientChanges)
+
+-- without a text
+abbrev pub client_changes : ℕ
+client_changes = 20

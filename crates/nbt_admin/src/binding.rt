@@ -4,7 +4,7 @@ ghost use Rattle.std.specs.Prelude.{◌≡◌, ◌↔◌, Any, IsTrue};
 ghost use Rattle.nbt_admin.specs.Serving.{ReadsBind};
 
 use crate::failure::{ArgumentFault, Failure};
-use crate::naming::address_of;
+use crate::naming::here_of;
 use crate::reading::{ReadEach, read_each};
 use nbt_name::Addr;
 use nbt_port::Bind;
@@ -14,7 +14,7 @@ use std::alloc::Global;
 const NAME_PORT: u16 = 137;
 
 /// Reads which addresses a server is to serve: every address of the machine, at port 137, where there is no text. Refused at the first
-/// text that is no address, or repeats one.
+/// text that is no address, or that of no machine, or repeats one.
 pub fn bind_of(alloc: Global, texts: &[&str]) -> Result<Bind, Failure>
     ensures { ReadsBind texts.now result }
 {
@@ -38,8 +38,8 @@ impl<'a> ReadEach<'a> for Addresses {
     ghost reads = { λ _ before text. ReadsNext before text };
 
     fn read(&self, alloc: Global, before: &[Addr], text: &'a str) -> Result<Addr, Failure> {
-        let address = address_of(alloc, text)?;
-        if is_among(address, before) {
+        let address = here_of(alloc, text)?;
+        if is_given(address, before) {
             return Err(Failure::of_argument(alloc, text, ArgumentFault::AddressTwice));
         }
         Ok(address)
@@ -47,7 +47,7 @@ impl<'a> ReadEach<'a> for Addresses {
 }
 
 /// Whether one of them is this address.
-fn is_among(address: Addr, addresses: &[Addr]) -> bool
+pub fn is_given(address: Addr, addresses: &[Addr]) -> bool
     ensures { IsTrue result ↔ Any (λ other. other ≡ address) addresses.now }
 {
     addresses.iter().any(|other| *other == address)

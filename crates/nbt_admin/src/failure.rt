@@ -2,15 +2,19 @@
 
 ghost use Rattle.std.specs.Prelude.{◌≡◌};
 
-use crate::hosting::NAMES_MOST;
+use crate::hosting::{NAMES_MOST, SERVERS_MOST};
+use crate::letters::how_to_write;
+use crate::other_lists::OtherList;
 use crate::reason::why_no_address;
 use crate::scanning::{PORT_MOST, RATE_MOST};
-use nbt_args::{LimitedArgument, NoUnit, Refusal, Text};
+use crate::timing::CHANGES_MOST;
+use nbt_args::{LimitedArgument, Refusal, Text};
 use nbt_front::LineFault;
 use nbt_lease::{Config, LIFE_MOST, LONGEST_MOST, ROWS_MOST};
 use nbt_nbns::write_refusal;
 use nbt_port::Fault;
 use nbt_scan::ADDRESSES_MOST;
+use nbt_text::BadUnit;
 use std::alloc::{AllocError, AllocFailed, Global};
 use std::io::Write;
 use std::{fmt, io};
@@ -64,6 +68,8 @@ pub enum ArgumentFault {
     NoFixed,
     /// Not a number of live leases for a client.
     ClientRows,
+    /// Not a number of changes of a client in a second.
+    ClientChanges,
     /// Not a network.
     Network,
     /// No network, range or address.
@@ -108,6 +114,7 @@ impl ArgumentFault {
             ArgumentFault::PathTwice | ArgumentFault::Stores => "file",
             ArgumentFault::NoFixed => "fixed names",
             ArgumentFault::ClientRows => "rows per client",
+            ArgumentFault::ClientChanges => "changes per client",
             ArgumentFault::Network => "network",
             ArgumentFault::Addresses | ArgumentFault::NotEachOne => "address",
             ArgumentFault::Bits => "network",
@@ -145,7 +152,7 @@ impl fmt::Display for ArgumentFault {
                 let most = LONGEST_MOST;
                 write!(f, "not a time in whole seconds from 1s to {most}s")
             }
-            ArgumentFault::Time => f.write_str("not a time, as 1500ms, 300s or 5m"),
+            ArgumentFault::Time => f.write_str("not a time, as 1500ms, 300s, 5m, 2h or 1d"),
             ArgumentFault::Folder => f.write_str("an empty text names no folder"),
             ArgumentFault::NoPath
             | ArgumentFault::NoHosts
@@ -157,6 +164,10 @@ impl fmt::Display for ArgumentFault {
             ArgumentFault::ClientRows => {
                 let most = ROWS_MOST;
                 write!(f, "not a whole number from 1 to {most}")
+            }
+            ArgumentFault::ClientChanges => {
+                let most = CHANGES_MOST;
+                write!(f, "not a whole number from 0 to {most}")
             }
             ArgumentFault::Network => f.write_str(
                 "no A.B.C.D/BITS or A.B.C.D in decimal, with 0 to 32 bits",
@@ -196,8 +207,8 @@ fn write_name_fault<W: fmt::Write>(
 }
 
 /// An invalid argument, and what is wrong with it. It prints as
-/// `name 'FILESERVER-NUMBER-1': 19 characters, at most 15`. Of an address, and of a time without its unit, it has what is wrong with
-/// the text.
+/// `name 'FILESERVER-NUMBER-1': 19 characters, at most 15`. Of an address, and of a time whose unit is missing or unknown, it has what is
+/// wrong with the text.
 #[derive(Drop)]
 pub struct BadArgument {
     pub text: String,
@@ -218,23 +229,29 @@ impl fmt::Display for BadArgument {
             | ArgumentFault::Longest
             | ArgumentFault::Time
             | ArgumentFault::Wait => {
-                match NoUnit::of(text) {
+                match BadUnit::of(text) {
                     Some(reason) => write!(f, "{what} '{text}': {reason}"),
                     None => write!(f, "{what} '{text}': {fault}"),
                 }
+            }
+            ArgumentFault::Name(nbt_text::Fault::Character(place)) => {
+                let how = how_to_write(text, place);
+                write!(f, "{what} '{text}': {fault}{how}")
             }
             _ => write!(f, "{what} '{text}': {fault}"),
         }
     }
 }
 
-/// A line of the file of fixed names that can't be taken: the file's path, the line's number from 1 on, and what is wrong with it. It
-/// prints as `printers.txt: line 3: kind: unique or group is wanted`.
+/// A line of the file of fixed names that can't be taken: the file's path, the line's number from 1 on, what is wrong with it, and which
+/// other list the file looks like. It prints as `printers.txt: line 3: kind: unique or group is wanted`, and behind that maybe as
+/// `; it looks like lmhosts: nbt import printers.txt makes a file of fixed names of it`.
 #[derive(Drop)]
 pub struct BadLine {
     pub path: String,
     pub number: usize,
     pub fault: LineFault,
+    pub other: Option<OtherList>,
 }
 
 impl fmt::Display for BadLine {
@@ -242,7 +259,14 @@ impl fmt::Display for BadLine {
         let path = self.path.as_str();
         let number = self.number;
         let fault = self.fault;
-        write!(f, "{path}: line {number}: {fault}")
+        write!(f, "{path}: line {number}: {fault}")?;
+        if let Some(other) = &self.other {
+            write!(
+                f,
+                "; it looks like {other}: nbt import {path} makes a file of fixed names of it"
+            )?;
+        }
+        Ok(())
     }
 }
 
@@ -257,6 +281,10 @@ pub enum Complaint {
     Short(Config),
     /// This number of names is more than a host can hold.
     Many(usize),
+    /// This number of servers is more than a host can have.
+    ManyServers(usize),
+    /// A host has several servers, which aren't said to be addresses of one table.
+    OneTable,
     /// More addresses are given than a scan asks.
     ManyAddresses,
 }
@@ -280,6 +308,14 @@ impl Complaint {
                 let most = NAMES_MOST;
                 writeln!(errors, "nbt: {count} names, at most {most}")?;
             }
+            Complaint::ManyServers(count) => {
+                let most = SERVERS_MOST;
+                writeln!(errors, "nbt: {count} servers, at most {most}")?;
+            }
+            Complaint::OneTable => writeln!(
+                errors,
+                "nbt: several servers only with --one-table, where all are addresses of one table"
+            )?,
             Complaint::ManyAddresses => {
                 let most = ADDRESSES_MOST;
                 writeln!(errors, "nbt: too many addresses, at most {most}")?;

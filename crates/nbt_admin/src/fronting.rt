@@ -5,14 +5,15 @@ ghost use Rattle.nbt_admin.specs.Failures.{IsFault};
 ghost use Rattle.nbt_admin.specs.Fronts.{FixedFails, GivesFixed};
 
 use crate::failure::{ArgumentFault, BadLine, Complaint, Failure};
+use crate::other_lists::OtherList;
 use crate::reading::ReadEach;
 use nbt_front::{FileFault, FixedNames, Network, read_fixed, read_network};
 use nbt_port::Fault;
 use std::alloc::Global;
 use std::fs::{File, OpenFile};
-use std::io;
 use std::io::{Read, Write};
 use std::rt::Files;
+use std::{fs, io};
 
 /// The most octets of a file of fixed names (our profile).
 const FILE_MOST: u64 = 1 << 22;
@@ -37,7 +38,7 @@ impl<'a> ReadEach<'a> for Networks {
 }
 
 /// The names that are fixed by the file of this path; none without a path. Refused at the first line that can't be taken; and with
-/// `Store` where the file can't be read, or has 4 MiB or more: a line in `errors` then says why.
+/// `Store` where the file can't be read, is no regular one, or has 4 MiB or more: a line in `errors` then says why.
 pub(crate) fn fixed_of<M: Files, E: Write>(
     machine: &M,
     alloc: Global,
@@ -63,13 +64,18 @@ pub(crate) fn fixed_of<M: Files, E: Write>(
             path: String::from_str(alloc, path)?,
             number,
             fault,
+            other: OtherList::seen_in(alloc, octets.as_slice(), number),
         }))),
         Err(FileFault::Memory) => Err(Failure::Fault(Fault::Memory)),
     }
 }
 
-/// The octets of the file of this path.
+/// The octets of the file of this path. Refused where that is no regular file: a pipe that nobody writes, and a device that doesn't end,
+/// would keep the server from its start.
 fn octets_in<M: Files>(machine: &M, alloc: Global, path: &str) -> io::Result<Vec<u8>> {
+    if !fs::metadata(machine, path)?.is_file() {
+        return Err(io::Error::other("no regular file"));
+    }
     let mut octets = Vec::new(alloc);
     File::open(machine, path)?
         .take(FILE_MOST)

@@ -1,12 +1,15 @@
 //! Reads addresses and names.
 
 ghost use Rattle.std.specs.Prelude.{◌≡◌, ◌↔◌, ◌≤◌, IsTrue};
-ghost use Rattle.nbt_admin.specs.Texts.{case_of, IsOfOne, AreOfOne, NeedsApart, NeedsName, ReadsAddress, ReadsSource, ReadsPeer, ReadsOwn, ReadsName, ReadsSought};
+ghost use Rattle.nbt_admin.specs.Texts.{case_of, IsOfHere, IsOfOne, AreOfOne, NeedsApart, NeedsName, ReadsAddress, ReadsHere, ReadsSource, ReadsPeer, ReadsOwn, ReadsName, ReadsSought};
 
 use crate::failure::{ArgumentFault, Failure};
 use nbt_name::{Addr, Name};
 use nbt_text::{Case, read_address, read_scoped_name, read_source};
 use std::alloc::Global;
+
+/// The first address after 0.0.0.0/8, which is of no other machine (RFC 1122 section 3.2.1.3).
+const MACHINES_FIRST: u32 = 0x0100_0000;
 
 /// The first multicast address, 224.0.0.0, and the first address behind them, 240.0.0.0 (RFC 1112 section 4).
 const MULTICAST_FIRST: u32 = 0xE000_0000;
@@ -26,14 +29,29 @@ pub fn address_of(alloc: Global, text: &str) -> Result<Addr, Failure>
     }
 }
 
-/// Reads an address from which requests are sent.
+/// Reads an address of this machine from which requests are sent.
 pub fn source_of(alloc: Global, text: &str) -> Result<Addr, Failure>
     ensures { ReadsSource text.now result }
 {
-    match read_source(alloc, text)? {
-        Some(source) => Ok(source),
-        None => Err(Failure::of_argument(alloc, text, ArgumentFault::Address)),
+    let source = match read_source(alloc, text)? {
+        Some(source) => source,
+        None => return Err(Failure::of_argument(alloc, text, ArgumentFault::Address)),
+    };
+    if !is_of_here(source.ip) {
+        return Err(Failure::of_argument(alloc, text, ArgumentFault::NotOne));
     }
+    Ok(source)
+}
+
+/// Reads an address of this machine at which requests come: that of one machine, or 0.0.0.0, which stands for each that it has.
+pub fn here_of(alloc: Global, text: &str) -> Result<Addr, Failure>
+    ensures { ReadsHere text.now result }
+{
+    let here = address_of(alloc, text)?;
+    if !is_of_here(here.ip) {
+        return Err(Failure::of_argument(alloc, text, ArgumentFault::NotOne));
+    }
+    Ok(here)
 }
 
 /// Reads an address to which requests can be sent. Refused, after what is no address: one that isn't of one machine, and port 0.
@@ -81,21 +99,28 @@ pub fn expect_no_address(alloc: Global, text: &str, fault: ArgumentFault) -> Res
     }
 }
 
-/// Returns whether an address is of one machine: not 0.0.0.0, no multicast address, and not 255.255.255.255.
+/// Returns whether an address can be this machine's: of one machine, or 0.0.0.0.
+fn is_of_here(ip: u32) -> bool
+    ensures { IsTrue result ↔ IsOfHere ip }
+{
+    ip == 0 || is_of_one(ip)
+}
+
+/// Returns whether an address is of one machine: not of 0.0.0.0/8, no multicast address, and not 255.255.255.255.
 fn is_of_one(ip: u32) -> bool
     ensures { IsTrue result ↔ IsOfOne ip }
 {
     let is_multicast = MULTICAST_FIRST <= ip && ip < MULTICAST_END;
-    ip != 0 && !is_multicast && ip != ALL
+    MACHINES_FIRST <= ip && !is_multicast && ip != ALL
 }
 
 /// Returns whether each address from the first to the last is of one machine.
-#[tactic(auto, using(crate::proofs::Ends::below_multicast, crate::proofs::Ends::above_multicast, crate::proofs::Ends::over_multicast, crate::proofs::Ends::from_zero, crate::proofs::Ends::to_all))]
+#[tactic(auto, using(crate::proofs::Ends::below_multicast, crate::proofs::Ends::above_multicast, crate::proofs::Ends::over_multicast, crate::proofs::Ends::below_machines, crate::proofs::Ends::to_all))]
 pub fn are_of_one(first: u32, last: u32) -> bool
     requires { first ≤ last }
     ensures { IsTrue result ↔ AreOfOne first last }
 {
-    first != 0 && (last < MULTICAST_FIRST || (MULTICAST_END <= first && last < ALL))
+    MACHINES_FIRST <= first && (last < MULTICAST_FIRST || (MULTICAST_END <= first && last < ALL))
 }
 
 /// Reads a name, with this scope if none stands behind its suffix.

@@ -1,10 +1,9 @@
 //! Runs a command for people who run a network on this machine.
 
-ghost use Rattle.std.specs.Prelude.{◌≡◌, ◌≤◌, IfOk, OnOk, IfErr};
+ghost use Rattle.std.specs.Prelude.{◌≡◌, ◌≤◌, IfOk, IfErr};
 ghost use Rattle.std.specs.Io.KnownBytes.{Appends};
-ghost use Rattle.nbt_nbns.specs.Servers.{RunsServer};
 ghost use Rattle.nbt_scan.specs.Plans.{IsPlan};
-ghost use Rattle.nbt_admin.specs.Running.{Runs, Refuses, Stops, AskedHere, HostedHere, ReleasedHere, ScannedHere};
+ghost use Rattle.nbt_admin.specs.Running.{Runs, Refuses, Stops, AskedHere, CheckedHere, EndedHere, HostedHere, ReleasedHere, ScannedHere, ServedHere};
 
 use crate::asking::{AskArguments, lookup_arguments, status_requests};
 use crate::failure::Failure;
@@ -17,13 +16,14 @@ use nbt_args::AdminLine;
 use nbt_client::ask_here;
 use nbt_host::{HostArguments, run_host, run_release};
 use nbt_lease::Config;
-use nbt_nbns::{Judged, ServerArguments, judge, run_server, write_warning};
+use nbt_nbns::{Judged, ServerArguments, check_server, judge, run_server, write_warning};
 use nbt_port::{Fault, print};
 use nbt_scan::run_scan;
 use std::alloc::Global;
 use std::fs::File;
 use std::io::Write;
 use std::net::Net;
+use std::random::RandomSource;
 use std::rt::Files;
 use std::{io, time};
 
@@ -37,12 +37,12 @@ const NONE_REPLIED: u8 = 1;
 const NOT_RELEASED: u8 = 1;
 
 /// Runs a command over this machine's UDP, clocks and files, prints its output, and returns the status: of a lookup or a status request
-/// 0, 1 or 5, as its answer has it, and of several requests the greatest; of a name server 0; of a host 0 if it held all its names at its
+/// 0, 1 or 5, as its answer has it, and of several requests the greatest; of a name server 0, or 6 where another one has its folder; of a host 0 if it held all its names at its
 /// end, else 5; of releases 0 if all were confirmed, else 1; of a scan 0 if a host replied, else 1. The first invalid argument is refused
 /// before anything is done. Then it fails as `ask_here`, `run_server`, `run_host` and `run_release` do, and with `Output` if an answer
 /// can't be printed. If the longest lease of a name server that keeps no leases is above an hour, a line in `errors` says for how long
 /// the server is silent.
-pub fn run<M: Net + time::Clock + Files<File = File>, W: Write, E: Write>(
+pub fn run<M: Net + time::Clock + RandomSource + Files<File = File>, W: Write, E: Write>(
     machine: &M,
     alloc: Global,
     line: &AdminLine<'_>,
@@ -50,7 +50,7 @@ pub fn run<M: Net + time::Clock + Files<File = File>, W: Write, E: Write>(
     errors: &mut E,
 ) -> Result<u8, Failure>
     ensures done { IfOk result (λ status. Runs line.now status (W.contents writer.old) (W.contents writer.new)) }
-    ensures bound { IfOk result (λ status. status ≤ 5) }
+    ensures bound { IfOk result (λ status. status ≤ 6) }
     ensures failure { IfErr result (Stops line.now) }
 {
     match line {
@@ -67,8 +67,7 @@ pub fn run<M: Net + time::Clock + Files<File = File>, W: Write, E: Write>(
             let mut nbns = server_arguments(alloc, texts)?;
             let names = fixed_of(machine, alloc, texts.fixed, errors)?;
             nbns.nbns.front.fix(names);
-            serve(machine, alloc, &nbns, writer, errors)?;
-            Ok(0)
+            Ok(serve(machine, alloc, &nbns, texts.check, writer, errors)?)
         }
         AdminLine::Host(texts) => {
             let host = host_arguments(alloc, texts)?;
@@ -113,7 +112,7 @@ pub fn check(alloc: Global, line: &AdminLine<'_>) -> Result<(), Failure>
 }
 
 /// Sends a request, prints its answer, and returns the status.
-fn ask<M: Net + time::Clock, W: Write, E: Write>(
+fn ask<M: Net + time::Clock + RandomSource, W: Write, E: Write>(
     machine: &M,
     alloc: Global,
     arguments: &AskArguments,
@@ -136,21 +135,57 @@ fn ask<M: Net + time::Clock, W: Write, E: Write>(
     Ok(answer.status())
 }
 
-/// Runs a name server.
+/// Runs a name server, or only says what it would do, and returns the status.
 fn serve<M: Net + time::Clock + Files<File = File>, W: Write, E: Write>(
     machine: &M,
     alloc: Global,
     arguments: &ServerArguments,
+    check: bool,
     writer: &mut W,
     errors: &mut E,
-) -> Result<(), Fault>
-    ensures { OnOk result (RunsServer arguments.now (W.contents writer.old) (W.contents writer.new)) }
+) -> Result<u8, Fault>
+    ensures done { IfOk result (λ status. ServedHere arguments.now check status (W.contents writer.old) (W.contents writer.new)) }
+    ensures bound { IfOk result (λ status. status ≤ 6) }
 {
     let config = arguments.nbns.config;
     if arguments.state.is_none() && judge(config) == Judged::Long {
         let _ = warn(alloc, config, errors);
     }
-    run_server(machine, alloc, arguments, writer, errors)
+    if check {
+        check_start(machine, alloc, arguments, writer, errors)
+    } else {
+        serve_on(machine, alloc, arguments, writer, errors)
+    }
+}
+
+/// Says what a name server would do that started now, and returns the status.
+fn check_start<M: Net + time::Clock + Files<File = File>, W: Write, E: Write>(
+    machine: &M,
+    alloc: Global,
+    arguments: &ServerArguments,
+    writer: &mut W,
+    errors: &mut E,
+) -> Result<u8, Fault>
+    ensures done { IfOk result (λ status. CheckedHere arguments.now status (W.contents writer.old) (W.contents writer.new)) }
+    ensures bound { IfOk result (λ status. status ≤ 6) }
+{
+    let folder = check_server(machine, alloc, arguments, writer, errors)?;
+    Ok(folder.status())
+}
+
+/// Runs a name server to its end, and returns the status.
+fn serve_on<M: Net + time::Clock + Files<File = File>, W: Write, E: Write>(
+    machine: &M,
+    alloc: Global,
+    arguments: &ServerArguments,
+    writer: &mut W,
+    errors: &mut E,
+) -> Result<u8, Fault>
+    ensures done { IfOk result (λ status. EndedHere arguments.now status (W.contents writer.old) (W.contents writer.new)) }
+    ensures bound { IfOk result (λ status. status ≤ 6) }
+{
+    let folder = run_server(machine, alloc, arguments, writer, errors)?;
+    Ok(folder.status())
 }
 
 /// Warns for how long a server is silent.
@@ -162,7 +197,7 @@ fn warn<E: Write>(alloc: Global, config: Config, errors: &mut E) -> io::Result<(
 }
 
 /// Runs a host, and returns the status.
-fn hold<M: Net + time::Clock, W: Write, E: Write>(
+fn hold<M: Net + time::Clock + RandomSource, W: Write, E: Write>(
     machine: &M,
     alloc: Global,
     arguments: &HostArguments,
@@ -177,7 +212,7 @@ fn hold<M: Net + time::Clock, W: Write, E: Write>(
 }
 
 /// Gives back what a host left, and returns the status.
-fn release<M: Net + time::Clock, W: Write, E: Write>(
+fn release<M: Net + time::Clock + RandomSource, W: Write, E: Write>(
     machine: &M,
     alloc: Global,
     arguments: &HostArguments,
@@ -201,7 +236,7 @@ fn release<M: Net + time::Clock, W: Write, E: Write>(
 }
 
 /// Asks the hosts of a network for their names, and returns the status.
-fn scan<M: Net + time::Clock, W: Write, E: Write>(
+fn scan<M: Net + time::Clock + RandomSource, W: Write, E: Write>(
     machine: &M,
     alloc: Global,
     arguments: &ScanArguments,

@@ -8,7 +8,7 @@ use crate::binding::bind_of;
 use crate::failure::{ArgumentFault, Failure};
 use crate::fronting::Networks;
 use crate::reading::read_each;
-use crate::timing::{client_rows_of, config_of, ending_of, fit};
+use crate::timing::{client_changes_of, client_rows_of, config_of, ending_of, fit};
 use nbt_args::NbnsTexts;
 use nbt_front::{FixedNames, Front, Network};
 use nbt_nbns::{NbnsArguments, ServerArguments, StateFolder};
@@ -16,6 +16,9 @@ use std::alloc::Global;
 
 /// How many live leases a client may have, without an argument (our profile).
 const CLIENT_ROWS: u32 = 64;
+
+/// How many changes a client may make in a second, without an argument (our profile).
+const CLIENT_CHANGES: u32 = 20;
 
 /// Reads the arguments of `nbns`. Refused, in this order: the first text that is no network, an empty path of the file of fixed names, and then
 /// as [`nbns_arguments`] has it. No name is fixed yet.
@@ -28,8 +31,8 @@ pub fn server_arguments(alloc: Global, texts: &NbnsTexts<'_>) -> Result<ServerAr
 }
 
 /// Reads all of them but the networks, which these are. Refused, in this order: the life, the longest lease, the time, a longest lease that is
-/// too short for a network, the addresses, the folder of the state, the files as [`files_of`] has them, one that the state has for itself, and
-/// the leases of a client.
+/// too short for a network, the addresses, the folder of the state, the files as [`files_of`] has them, one that the state has for itself,
+/// the leases of a client, and its changes in a second.
 fn nbns_arguments(
     alloc: Global,
     texts: &NbnsTexts<'_>,
@@ -45,6 +48,9 @@ fn nbns_arguments(
     let files = files_of(alloc, texts)?;
     expect_beside(alloc, texts)?;
     let rows = client_rows_of(alloc, texts.rows_per_client)?;
+    let changes = client_changes_of(alloc, texts.changes_per_client)?;
+    let rows_per_client = rows.unwrap_or(CLIENT_ROWS);
+    let changes_per_client = changes.unwrap_or(CLIENT_CHANGES);
     Ok(ServerArguments {
         nbns: NbnsArguments {
             bind,
@@ -56,7 +62,8 @@ fn nbns_arguments(
             hosts: files.hosts,
             stats: files.stats,
             strict: texts.strict,
-            rows_per_client: rows.unwrap_or(CLIENT_ROWS),
+            rows_per_client,
+            changes_per_client,
             front: Front::new(allowed, FixedNames::none(alloc), config),
         },
         state,

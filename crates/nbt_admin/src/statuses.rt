@@ -11,6 +11,7 @@ use nbt_port::Fault;
 use std::alloc::{AllocError, Global};
 use std::io::Write;
 use std::net::Net;
+use std::random::RandomSource;
 use std::{io, time};
 
 /// What ends a line.
@@ -18,7 +19,7 @@ const LINE_FEED: u8 = b'\n';
 
 /// Sends the requests one after the other, prints each answer, and returns the greatest of their statuses. If there is more than one, each
 /// line begins with its host's address, as it was given. The first that fails ends it.
-pub fn ask_all<M: Net + time::Clock, W: Write, E: Write>(
+pub fn ask_all<M: Net + time::Clock + RandomSource, W: Write, E: Write>(
     machine: &M,
     alloc: Global,
     requests: &[HostAsked<'_>],
@@ -39,7 +40,7 @@ fn are_many(requests: &[HostAsked<'_>]) -> bool
 }
 
 /// The same, where `many` tells whether the lines begin so.
-fn ask_in_turn<M: Net + time::Clock, W: Write, E: Write>(
+fn ask_in_turn<M: Net + time::Clock + RandomSource, W: Write, E: Write>(
     machine: &M,
     alloc: Global,
     many: bool,
@@ -65,7 +66,7 @@ fn greatest(one: u8, other: u8) -> u8
 }
 
 /// Sends a request, prints its answer, and returns the status.
-fn ask_one<M: Net + time::Clock, W: Write, E: Write>(
+fn ask_one<M: Net + time::Clock + RandomSource, W: Write, E: Write>(
     machine: &M,
     alloc: Global,
     many: bool,

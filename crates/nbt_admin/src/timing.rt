@@ -3,7 +3,7 @@
 ghost use Rattle.std.specs.Prelude.{◌≡◌, ◌<◌, ◌^◌, ℕ, IsSome, IfSome, IfNone};
 ghost use Rattle.nbt_lease.specs.Config.{IsLongest, milliseconds, rows_most};
 ghost use Rattle.nbt_admin.specs.Reading.{IfGiven};
-ghost use Rattle.nbt_admin.specs.Times.{SpellsLongest, ReadsConfig, NeedsFit, ReadsTime, ReadsUpTo};
+ghost use Rattle.nbt_admin.specs.Times.{SpellsLongest, ReadsChanges, ReadsConfig, NeedsFit, ReadsTime, ReadsUpTo};
 ghost use Rattle.nbt_admin.specs.declared.failure.ArgumentFault.TheVariants.{ClientRows};
 
 use crate::failure::{ArgumentFault, Complaint, Failure};
@@ -11,6 +11,9 @@ use nbt_lease::{Config, LIFE_MOST, LONGEST_MOST, ROWS_MOST};
 use nbt_nbns::{Judged, judge};
 use nbt_text::{duration_within, number_within, read_duration};
 use std::alloc::Global;
+
+/// How many changes of a client in a second may be allowed at most (our profile).
+pub const CHANGES_MOST: u32 = 1_000_000;
 
 /// The milliseconds of a second.
 const SECOND: u64 = 1_000;
@@ -68,6 +71,25 @@ pub fn client_rows_of(alloc: Global, text: Option<&str>) -> Result<Option<u32>, 
             Ok(Some(number_of(alloc, text, most, ArgumentFault::ClientRows)?))
         }
         None => Ok(None),
+    }
+}
+
+/// Reads how many changes a client of a server may make in a second: a whole number from 0 to 1,000,000; `None` without a text.
+pub fn client_changes_of(alloc: Global, text: Option<&str>) -> Result<Option<u32>, Failure>
+    ensures { IfGiven ReadsChanges text.entry result }
+{
+    match text {
+        Some(text) => Ok(Some(changes_of(alloc, text)?)),
+        None => Ok(None),
+    }
+}
+
+fn changes_of(alloc: Global, text: &str) -> Result<u32, Failure>
+    ensures { ReadsChanges text.now result }
+{
+    match number_within(text, 0, u64::from(CHANGES_MOST)) {
+        Some(number) => Ok(number as u32),
+        None => Err(Failure::of_argument(alloc, text, ArgumentFault::ClientChanges)),
     }
 }
 

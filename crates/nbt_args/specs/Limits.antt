@@ -1,6 +1,5 @@
 -- The limits of the values that arguments have, as the help says them (our profile).
-use Rattle.std.specs.Prelude.{◌≡◌, ℕ, ◌^◌, ◌<◌, true, List, length, All}
-use Rattle.std.specs.Char.{is_ascii_digit}
+use Rattle.std.specs.Prelude.{ℕ, ◌^◌}
 use Rattle.nbt_args.specs.declared.limits.LimitedArgument.{LimitedArgument}
 use Rattle.nbt_args.specs.declared.limits.LimitedArgument.TheVariants.{At, Wait, Life, Longest, Ttl, Turns, Port}
 
@@ -20,7 +19,3 @@ most_of Longest = 1000000
 most_of Ttl = 4294967295
 most_of Turns = 1000000
 most_of Port = 65533
-
--- decimal digits alone, and so a time without its unit
-abbrev pub IsNumber : List ℕ → Type 0
-IsNumber text = (0 < length text) × All (λ octet. is_ascii_digit octet ≡ true) text

@@ -29,6 +29,22 @@ const SERVER: Argument = Argument {
     help: "The name server's address, by default at port 137",
 };
 
+/// The servers of a host.
+const SERVERS: Argument = Argument {
+    name: "server",
+    form: Form::Options("ADDR"),
+    presence: Presence::Required,
+    help: "The name server's address, by default at port 137; up to 4 with --one-table",
+};
+
+/// Whether the servers of a host are one.
+const ONE_TABLE: Argument = Argument {
+    name: "one-table",
+    form: Form::Flag,
+    presence: Presence::Optional,
+    help: "All of --server are addresses of one table of names: those of one server, or of a cluster",
+};
+
 const TRIES: Argument = Argument {
     name: "tries",
     form: Form::OptionChoice("N", &[ONCE, TWICE, "3"]),
@@ -61,7 +77,7 @@ const LONGEST: Argument = Argument {
     name: "longest",
     form: Form::Option("TIME"),
     presence: Presence::Default("5m"),
-    help: "The longest lease, in whole seconds: from 1s to 1000000s",
+    help: "The longest lease, in whole seconds: at least 30s and 20 times --life, at most 1000000s",
 };
 
 const FOR: Argument = Argument {
@@ -91,6 +107,7 @@ pub static LOOKUP: Description = Description {
     help: "\
 Prints one address per line, as `192.0.2.7 unique` or `192.0.2.7 group`, then `cut` if the reply was truncated. If nobody holds
 NAME, prints `not found: no such name (3)`, with the server's own reason. If no reply comes, prints `no reply`.
+`255.255.255.255 group` is no holder: the server keeps no members of that group. `0.0.0.0 group` says no member's address.
 
 NAME is `FILER`, `FILER#20` or `FILER<20>`: 1 to 15 characters and the suffix in two hexadecimal digits, by default 20. Any
 other name is `hex:` and 32 digits. A scope may follow the suffix or the digits, as in `FILER#20.NETBIOS.COM`, and is taken as it
@@ -190,7 +207,7 @@ pub static NBNS: Description = Description {
             name: "log-broadcasts",
             form: Form::Flag,
             presence: Presence::Optional,
-            help: "With --log, and --bind 0.0.0.0, prints a line for each broadcast of a B node too",
+            help: "Prints a line for each broadcast of a B node too; has no effect without --log and --bind 0.0.0.0",
         },
         Argument {
             name: "leases",
@@ -246,6 +263,18 @@ pub static NBNS: Description = Description {
             presence: Presence::With(STATE),
             help: "With --state, doesn't go on with the leases after a boot of the machine",
         },
+        Argument {
+            name: "changes-per-client",
+            form: Form::Option("N"),
+            presence: Presence::With(STATE),
+            help: "With --state, how many changes a client may make in a second: 0 for any number; without it, 20",
+        },
+        Argument {
+            name: "check",
+            form: Form::Flag,
+            presence: Presence::Optional,
+            help: "Serves nothing, and prints what a start would do",
+        },
     ],
     help: "\
 The first line has its addresses, and for how long and until when it is silent, as `serving 127.0.0.1:137, 192.0.2.1:137, silent
@@ -257,15 +286,22 @@ With --state it writes each change of a lease to FOLDER/leases before its reply 
 first line is `serving 192.0.2.1:137, with 17 leases kept`. Where it can't go on, the line says why: `silent for 300 s until
 2026-11-24T09:17:03Z, since nothing was kept`. After another boot, or on another machine, it goes on too, a second later, unless
 --silent-after-boot. What FOLDER has must be what this server kept last: a copy or an older state may grant a name to a second
-machine. FOLDER must exist, and one server at a time may use it: it ends with status 3 if FOLDER is moved or replaced.
+machine. FOLDER must exist, and one server at a time may use it: a second one ends with status 6, and prints nothing. It ends with
+status 3 if FOLDER is moved or replaced.
+
+--check reads all arguments, the file of --fixed, what stands at each FILE, and FOLDER, and ends: nothing is bound, made or changed.
+It prints how a server would begin that started now, as `would serve, with 17 leases kept`, or on standard error the first fault, with
+the status of a start. Whether an address is free, whether a file can be made in FOLDER, and whether a FILE can be written to, isn't
+tried. The status is 6 if another server uses FOLDER: the line then says what a start would do if that one ended now. --bind, --for,
+--log, --log-broadcasts, --strict, --rows-per-client and --allow have no effect then.
 
 A reply leaves from the address at which its request came. Without --bind it serves every IPv4 address of the machine at port 137,
 by a socket for each: standard error says when one comes or goes. --bind 0.0.0.0 is one socket for all, which hears broadcasts too,
 and whose replies leave from the address that the system chooses.
 
 ADDR is A.B.C.D or A.B.C.D:PORT; for port 0 the system chooses one, which the first line has. TIME is a number and its unit, as
-1500ms, 300s or 5m. The longest lease must be at least 30 s and at least 20 lives of a datagram, else a hold would lapse before it
-can be refreshed. If it is above an hour, and without --state, standard error says for how long each start is silent.
+1500ms, 300s, 5m, 2h or 1d. The longest lease must be at least 30 s and at least 20 lives of a datagram, else a hold would lapse
+before it can be refreshed. If it is above an hour, and without --state, standard error says for how long each start is silent.
 
 --log prints lines as `2026-11-24T09:12:03Z granted FILER#20 192.0.2.7 unique 300 s`; `renewed`, `refused` with the sender and
 the reason, `released`, `unanswered` for a request during the silence, and `malformed` or `foreign` for a packet that is no
@@ -274,16 +310,18 @@ it has changed and at most once per second: a first line that says what it is, a
 192.0.2.7 2026-11-24T09:17:03Z`, with the time of its expiry.
 
 --hosts keeps a FILE likewise, with one line per live lease of a file server, as `192.0.2.7 FILER`: of a unique name of suffix 20,
-without a scope, of letters, digits and inner hyphens. --stats keeps one with its statistics, in Prometheus' text format for the
-node exporter's textfile collector. The three files must differ.
+without a scope, of letters, digits and inner hyphens. A name with a small letter is left out while another has its letters in
+another case, and any that has the letters of a fixed name. --stats keeps one with its statistics, in Prometheus' text format for
+the node exporter's textfile collector. The three files must differ.
 
 A client is the address that a registration comes from. One with N live leases, unique names and groups together, is refused one
 of a further name, with SRV_ERR; what it has it keeps, and renews. Machines behind one address count as one client.
 
 NETWORK is an address and how many of its first bits the others share, as 192.0.2.0/24, or an address alone. A machine of no NETWORK
 is refused each registration, refresh and overwrite, with RFS_ERR; it may still ask for names. --fixed reads FILE once, at the
-start: lines as `FILER#20 unique 192.0.2.7` and `OFFICE#00 group 192.0.2.9`, of which several of one group are its addresses, up to
-48; up to 1024 names; a line that begins with # is a remark. Such a name is found from the first moment on, with the longest lease
+start: lines as `FILER#20 unique 192.0.2.7` and `OFFICE#00 group 192.0.2.9`, with spaces or tabs between the words, of which
+several of one group are its addresses, up to 48; up to 1024 names; a line that begins with # is a remark. `nbt import` makes such
+a file of an lmhosts or a wins.dat. Such a name is found from the first moment on, with the longest lease
 as its TTL. Its own machine may register, refresh and release it, which changes nothing; nobody else may, with ACT_ERR. With --state
 a lease that another machine has of it wins until it ends, or is released: it is found, but not renewed, and the name's own machine
 gets ACT_ERR; standard error says so at the start. It says too what was refused, as `nbt: refused FILER#20 192.0.2.9: a fixed name`,
@@ -297,6 +335,7 @@ Examples:
   nbt nbns
   nbt nbns --bind 192.0.2.1 --bind 198.51.100.1 --longest 10m --log --leases leases.txt
   nbt nbns --state /var/lib/nbt --allow 192.0.2.0/24 --fixed printers.txt
+  nbt nbns --state /var/lib/nbt --allow 192.0.2.0/24 --fixed printers.txt --check
 
 Exit status:
   0  done
@@ -304,7 +343,8 @@ Exit status:
      error explains
   3  no port or no clock, a socket failed 100 times in a row, FOLDER can't be read or written, the file of --fixed can't be read,
      a FILE can't be replaced, or the output failed; prints `device`, unless it was FILE or the output
-  4  out of memory at the start; prints `memory`",
+  4  out of memory at the start; prints `memory`
+  6  another server uses FOLDER, as standard error says",
 };
 
 pub static HOST: Description = Description {
@@ -317,7 +357,8 @@ pub static HOST: Description = Description {
             presence: Presence::Unless("group"),
             help: "The names to hold, each for this machine alone",
         },
-        SERVER,
+        SERVERS,
+        ONE_TABLE,
         Argument {
             name: "bind",
             form: Form::Option("ADDR"),
@@ -349,13 +390,19 @@ requests them again after a refusal. Prints one line per event, with its time: a
 lost, or lapsed, since no reply came in time. When its time ends, it releases the names and prints which releases the server
 confirmed. A signal ends it at once, and its leases expire by themselves.
 
+Of several --server it asks the first. When it has asked one without a reply for 15 s or more, and nothing has come from it for
+LONGEST, the host starts again at the next one, and after the last at the first: it holds nothing, rests, and registers its names
+there. They must all be addresses of one table of names, which --one-table says: of two tables each would give a name to another
+host.
+
 NAME is as `nbt lookup --help` says. ADDR is A.B.C.D or A.B.C.D:PORT, of one machine and so not 0.0.0.0: --bind is an address at
-which other hosts reach this machine, and not that of --server. TIME is a number and its unit, as 1500ms, 300s or 5m. --life and
---longest must be those of the server; their defaults and limits are those of `nbt nbns`.
+which other hosts reach this machine, and not that of --server. TIME is a number and its unit, as 1500ms, 300s, 5m, 2h or 1d.
+--life and --longest must be those of the server; their defaults and limits are those of `nbt nbns`.
 
 Examples:
   nbt host FILER 'FILER<00>' --group 'WORKGROUP<00>' --server 192.0.2.1 --bind 192.0.2.7
   nbt host FILER --server 192.0.2.1 --bind 192.0.2.7 --for 8m --log
+  nbt host FILER --server 192.0.2.1 --server 198.51.100.1 --one-table --bind 192.0.2.7
 
 Exit status:
   0  all names were held at the end
@@ -375,7 +422,8 @@ pub static RELEASE: Description = Description {
             presence: Presence::Unless("group"),
             help: "The names that the host held, each for this machine alone",
         },
-        SERVER,
+        SERVERS,
+        ONE_TABLE,
         Argument {
             name: "bind",
             form: Form::Option("ADDR"),
@@ -404,9 +452,11 @@ pub static RELEASE: Description = Description {
 Sends a release request for each name from the address and the port of the host. While a host runs there, that port can't be
 bound, and nothing is sent. Each request is sent up to three times, one every 5 s, until its reply comes. At the end prints one
 line per name: `released FILER#20`; `not leased FILER#20` if the server says that it has no such name, which `nbt nbns` doesn't: it
-confirms that too; `refused FILER#20: held by another (6)`, with the server's own reason; or `no reply for FILER#20`.
+confirms that too; `refused FILER#20: held by another (6)`, with the server's own reason; or `no reply for FILER#20`. Without a
+route to the server it ends at once, with status 3, and standard error says so.
 
 The arguments are those of `nbt host`, so that the same settings serve both. --life, --longest, --for and --log have no effect.
+Of several --server the first is asked, and no other.
 The port of --bind is the host's, and so not 0. From another port a host that runs isn't noticed, and loses its names: a server
 knows a host by its address alone.
 

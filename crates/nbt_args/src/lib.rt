@@ -8,15 +8,16 @@ mod admin;
 mod argument;
 mod bench;
 mod limits;
+mod lists;
 mod network;
 mod program;
 mod refusal;
 mod scan;
 mod texts;
-mod unit;
 
 pub use admin::{ONCE, TWICE};
 pub use limits::{LimitedArgument, LimitedCommand, WAIT_MOST, bad_value};
+pub use lists::{ImportTexts, LeasesTexts};
 pub use network::GROUP;
 pub use program::no_text;
 pub use refusal::{Refusal, Text};
@@ -25,4 +26,3 @@ pub use texts::{
     AdminLine, AnswerTexts, CommandLine, HostTexts, LookupTexts, NbnsTexts, NodeTexts, ServeTexts,
     ShowTexts, StatusTexts, read,
 };
-pub use unit::NoUnit;

@@ -7,11 +7,11 @@ ghost use Rattle.nbt_args.specs.Refusal.{IsWrongUsage};
 
 use crate::argument::{Argument, Description, command_of};
 use crate::refusal::Refusal;
-use crate::unit::NoUnit;
 use crate::{admin, bench, network};
 use clap::Error;
 use clap::error::ErrorKind;
 use nbt_lease::{LIFE_MOST, LONGEST_MOST};
+use nbt_text::BadUnit;
 use std::alloc::{AllocError, Global};
 use std::fmt;
 
@@ -151,7 +151,7 @@ fn bad_value_error(
     ensures { IfOk result (λ e. kind_of e ≡ ErrorKind.ValueValidation) }
 {
     let shown = argument.argument();
-    let message = match no_unit(argument, value) {
+    let message = match bad_unit(argument, value) {
         Some(reason) => format!(in alloc; "invalid value '{value}' for '{shown}': {reason}")?,
         None => format!(in alloc; "invalid value '{value}' for '{shown}': not {argument}")?,
     };
@@ -161,10 +161,10 @@ fn bad_value_error(
     command.error(ErrorKind::ValueValidation, message.as_str())
 }
 
-/// Returns the value if it is a time without its unit.
-fn no_unit<'a>(argument: LimitedArgument, value: &'a str) -> Option<NoUnit<'a>> {
+/// Returns the value if it is a time whose unit is missing or unknown.
+fn bad_unit<'a>(argument: LimitedArgument, value: &'a str) -> Option<BadUnit<'a>> {
     match argument {
-        LimitedArgument::Wait => NoUnit::of(value),
+        LimitedArgument::Wait => BadUnit::of(value),
         _ => None,
     }
 }

@@ -6,7 +6,7 @@ ghost use Rattle.nbt_args.specs.Refusal.{IsWrongUsage};
 
 use crate::argument::command_of;
 use crate::refusal::Refusal;
-use crate::{admin, bench, network, scan};
+use crate::{admin, bench, lists, network, scan};
 use clap::error::ErrorKind;
 use clap::{Command, Error};
 use std::alloc::{AllocError, Global};
@@ -15,8 +15,8 @@ const ABOUT: &str =
     "NetBIOS over TCP and UDP, as RFC 1001 and RFC 1002 specify it: names, and the packets of the name service";
 
 const HELP: &str = "\
-`lookup`, `status`, `scan`, `nbns`, `host` and `release` are for people who run a network. The others are a bench on which the
-protocol is tried: their arguments and texts are fixed. `nbt COMMAND --help` has the arguments of each.
+`lookup`, `status`, `scan`, `nbns`, `host`, `release`, `import` and `leases` are for people who run a network. The others are a bench
+on which the protocol is tried: their arguments and texts are fixed. `nbt COMMAND --help` has the arguments of each.
 
 Examples:
   nbt lookup FILER --server 192.0.2.1
@@ -27,10 +27,11 @@ Examples:
 
 Exit status:
   0  done
-  1  of `lookup` and `status`: not found; of `release`: a name was not released; of `scan`: no host replied; of the bench: octets
-     are refused, or an address, a hexadecimal text or the input can't be read (prints `unreadable`)
+  1  of `lookup` and `status`: not found; of `release`: a name was not released; of `scan`: no host replied; of `import` and
+     `leases`: a file is none of those that they read, or no name was taken; of the bench: octets are refused, or an address, a
+     hexadecimal text or the input can't be read (prints `unreadable`)
   2  wrong usage, which standard output explains, or an invalid argument of a command for people, which standard error explains
-  3  a port, a clock, a socket, the input or the output failed; prints `device` where it can
+  3  a port, a clock, a socket, a file, the input or the output failed; prints `device` where it can
   4  out of memory; prints `memory`
   5  of `lookup` and `status`: no reply; of `host`: a name wasn't held at the end";
 
@@ -43,6 +44,8 @@ pub fn program<'a>(alloc: Global) -> Result<Command<'a>, AllocError> {
         &admin::HOST,
         &admin::RELEASE,
         &scan::SCAN,
+        &lists::IMPORT,
+        &lists::LEASES,
         &bench::ANSWER,
         &bench::SHOW,
         &bench::CHECK,

@@ -1,9 +1,10 @@
 //! Reads a command line: the texts of its arguments, by name.
 
-ghost use Rattle.std.specs.Prelude.{◌≡◌, true, false, IfOk, codes, map};
+ghost use Rattle.std.specs.Prelude.{◌≡◌, true, false, IfOk, codes, map, drop};
 ghost use Rattle.std.specs.Option.{option_map};
 ghost use Rattle.nbt_args.specs.Inner.Matches.{IsFlag, Tells, TellsTurns, argument_of, arguments_of, value_of};
 
+use crate::lists::{ImportTexts, LeasesTexts, import_texts, leases_texts};
 use crate::program::program;
 use crate::refusal::Refusal;
 use crate::scan::{ScanTexts, scan_texts};
@@ -129,6 +130,10 @@ pub struct NbnsTexts<'a> {
     pub state: Option<&'a str>,
     /// Whether it is silent after another boot.
     pub silent_after_boot: bool,
+    /// How many changes a client may make in a second; `None` for the default.
+    pub changes_per_client: Option<&'a str>,
+    /// Whether it only says what a server would do.
+    pub check: bool,
 }
 
 /// The texts of the arguments of `host`, or of `release`.
@@ -142,8 +147,12 @@ pub struct HostTexts<'a> {
     pub scope: &'a str,
     /// Whether lower-case letters are kept.
     pub exact: bool,
-    /// The name server's address.
+    /// The name server's address, the first of several.
     pub server: &'a str,
+    /// The others.
+    pub others: Vec<&'a str>,
+    /// Whether all are addresses of one table.
+    pub one_table: bool,
     /// The own address.
     pub bind: &'a str,
     /// The greatest life of a datagram.
@@ -172,6 +181,8 @@ pub enum AdminLine<'a> {
 pub enum CommandLine<'a> {
     /// A command for people who run a network.
     Admin(AdminLine<'a>),
+    Import(ImportTexts<'a>),
+    Leases(LeasesTexts<'a>),
     Answer(AnswerTexts<'a>),
     Show(ShowTexts<'a>),
     Check,
@@ -228,6 +239,8 @@ fn line_of<'a>(
         "host" => CommandLine::Admin(AdminLine::Host(host_texts(alloc, matches)?)),
         "release" => CommandLine::Admin(AdminLine::Release(host_texts(alloc, matches)?)),
         "scan" => CommandLine::Admin(AdminLine::Scan(scan_texts(alloc, matches)?)),
+        "import" => CommandLine::Import(import_texts(alloc, matches)?),
+        "leases" => CommandLine::Leases(leases_texts(matches)),
         "answer" => CommandLine::Answer(answer_texts(matches)),
         "show" => CommandLine::Show(show_texts(matches)),
         "check" => CommandLine::Check,
@@ -294,6 +307,8 @@ fn nbns_texts<'a>(alloc: Global, matches: &ArgMatches<'a>) -> Result<NbnsTexts<'
     ensures fixed { IfOk result (λ texts. option_map (λ text. text.now) texts.fixed ≡ value_of matches.now (codes "fixed")) }
     ensures state { IfOk result (λ texts. option_map (λ text. text.now) texts.state ≡ value_of matches.now (codes "state")) }
     ensures boots { IfOk result (λ texts. Tells matches.now (codes "silent-after-boot") texts.silent_after_boot) }
+    ensures client_changes { IfOk result (λ texts. option_map (λ text. text.now) texts.changes_per_client ≡ value_of matches.now (codes "changes-per-client")) }
+    ensures check { IfOk result (λ texts. Tells matches.now (codes "check") texts.check) }
 {
     let binds = arguments(alloc, matches, "bind")?;
     let allow = arguments(alloc, matches, "allow")?;
@@ -313,6 +328,8 @@ fn nbns_texts<'a>(alloc: Global, matches: &ArgMatches<'a>) -> Result<NbnsTexts<'
         fixed: matches.get_str("fixed"),
         state: matches.get_str("state"),
         silent_after_boot: matches.get_flag("silent-after-boot"),
+        changes_per_client: matches.get_str("changes-per-client"),
+        check: matches.get_flag("check"),
     })
 }
 
@@ -321,6 +338,8 @@ fn host_texts<'a>(alloc: Global, matches: &ArgMatches<'a>) -> Result<HostTexts<'
     ensures groups { IfOk result (λ texts. map (λ text. text.now) texts.groups.items ≡ arguments_of matches.now (codes "group")) }
     ensures scope { IfOk result (λ texts. texts.scope.now ≡ argument_of matches.now (codes "scope")) }
     ensures exact { IfOk result (λ texts. Tells matches.now (codes "exact") texts.exact) }
+    ensures others { IfOk result (λ texts. map (λ text. text.now) texts.others.items ≡ drop 1 (arguments_of matches.now (codes "server"))) }
+    ensures one_table { IfOk result (λ texts. Tells matches.now (codes "one-table") texts.one_table) }
     ensures server { IfOk result (λ texts. texts.server.now ≡ argument_of matches.now (codes "server")) }
     ensures bind { IfOk result (λ texts. texts.bind.now ≡ argument_of matches.now (codes "bind")) }
     ensures life { IfOk result (λ texts. texts.life.now ≡ argument_of matches.now (codes "life")) }
@@ -330,12 +349,15 @@ fn host_texts<'a>(alloc: Global, matches: &ArgMatches<'a>) -> Result<HostTexts<'
 {
     let names = arguments(alloc, matches, "name")?;
     let groups = arguments(alloc, matches, "group")?;
+    let others = further(alloc, matches, "server")?;
     Ok(HostTexts {
         names,
         groups,
         scope: argument(matches, "scope"),
         exact: matches.get_flag("exact"),
         server: argument(matches, "server"),
+        others,
+        one_table: matches.get_flag("one-table"),
         bind: argument(matches, "bind"),
         life: argument(matches, "life"),
         longest: argument(matches, "longest"),
@@ -355,6 +377,21 @@ pub(crate) fn arguments<'a>(
     let mut texts = Vec::new(alloc);
     if let Some(found) = matches.get_strs(name) {
         texts.extend_from_slice(found)?;
+    }
+    Ok(texts)
+}
+
+/// Returns the texts of an argument that may be repeated after its first, in order.
+fn further<'a>(
+    alloc: Global,
+    matches: &ArgMatches<'a>,
+    name: &str,
+) -> Result<Vec<&'a str>, AllocError>
+    ensures { IfOk result (λ texts. map (λ text. text.now) texts.items ≡ drop 1 (arguments_of matches.now name.now)) }
+{
+    let mut texts = arguments(alloc, matches, name)?;
+    if !texts.is_empty() {
+        texts.remove(0);
     }
     Ok(texts)
 }

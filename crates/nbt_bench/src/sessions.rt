@@ -11,10 +11,14 @@ use nbt_port::{Cause, Fault};
 use nbt_session::{Caller, CallerAnswer, Event, Packet};
 use std::alloc::Global;
 use std::io;
-use std::net::{Ipv4Addr, Net, OpenStream, TcpStream};
+use std::net::{IpAddr, Ipv4Addr, Net, OpenStream, SocketAddr, TcpStream};
+use std::time::Duration;
 
 /// How many events are waited for in a call: three for each of its four tries.
 const EVENTS: u32 = 12;
+
+/// How long it may take to connect, in milliseconds (our profile).
+const CONNECT_WAIT: u64 = 1_000;
 
 /// A call: to which name, by which name, and where.
 #[derive(Debug, Drop)]
@@ -105,7 +109,7 @@ impl<R: Net> Session<R> {
         Ok(())
     }
 
-    /// Connects, and lets the end that listens take the connection. A connection that fails is lost.
+    /// Connects, and lets the end that listens take the connection. A connection that fails, or takes more than a second, is lost.
     fn connect(
         &mut self,
         rt: &R,
@@ -114,7 +118,9 @@ impl<R: Net> Session<R> {
         to: Addr,
     ) -> Result<Event, Fault> {
         self.connection = None;
-        let Ok(socket) = TcpStream::connect(rt, (Ipv4Addr::from_bits(to.ip), to.port)) else {
+        let there = SocketAddr::new(IpAddr::V4(Ipv4Addr::from_bits(to.ip)), to.port);
+        let wait = Duration::from_millis(CONNECT_WAIT);
+        let Ok(socket) = TcpStream::connect_timeout(rt, &there, wait) else {
             return Ok(Event::Lost);
         };
         let Ok(own) = socket.local_addr() else {

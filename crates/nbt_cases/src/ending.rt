@@ -11,6 +11,7 @@ use std::fs::File;
 use std::io;
 use std::io::Write;
 use std::net::Net;
+use std::random::RandomSource;
 use std::rt::Files;
 use std::time::Clock;
 
@@ -61,7 +62,10 @@ pub struct Ending {
 
 impl Ending {
     /// Plays a case on this machine.
-    pub fn on<R: AllocGlobal + Net + Clock + Files<File = File>>(rt: &R, case: &Case) -> Ending {
+    pub fn on<R: AllocGlobal + Net + Clock + RandomSource + Files<File = File>>(
+        rt: &R,
+        case: &Case,
+    ) -> Ending {
         let mut printed = Paper::new(rt.alloc());
         let mut said = Paper::new(rt.alloc());
         let status = command_telling(

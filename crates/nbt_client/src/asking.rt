@@ -23,20 +23,21 @@ const LONGEST: u32 = 60;
 /// The most turns, of which each waits for one datagram: more than come in the time that a lookup has (our profile).
 pub const TURNS_MOST: u64 = 1 << 40;
 
-/// Starts a node at `own` whose server is the host that is asked, and looks up as [`look_up`] does, for `patience` milliseconds
-/// at most. Appends the text of the outcome: what the reply says, or the line `no reply`. Refused: `Device` at the first call
+/// Starts a node at `own` whose server is the host that is asked, and looks up as [`look_up`] does, by the id `first_id`, for `patience`
+/// milliseconds at most. Appends the text of the outcome: what the reply says, or the line `no reply`. Refused: `Device` at the first call
 /// of the port that fails, and nothing is appended then; `Memory` after the lookup, where it is out of memory.
 pub fn ask<P: Port, C: Clock>(
     port: &mut P,
     clock: &mut C,
     own: Addr,
+    first_id: u16,
     question: &Question,
     patience: u32,
     out: &mut String,
 ) -> Result<Answer, Fault>
-    ensures ok { IfOk result (λ answer. (text : List ℕ) × Asks P.does C.tells own question.now patience port.old clock.old answer text port.new clock.new
+    ensures ok { IfOk result (λ answer. (text : List ℕ) × Asks P.does C.tells own first_id question.now patience port.old clock.old answer text port.new clock.new
         × (string_bytes out.new ≡ string_bytes out.old ++ text)) }
-    ensures device { result ≡ Err Fault.Device → AskFails P.does C.tells own question.now patience port.old clock.old port.new clock.new
+    ensures device { result ≡ Err Fault.Device → AskFails P.does C.tells own first_id question.now patience port.old clock.old port.new clock.new
         × (string_bytes out.new ≡ string_bytes out.old) }
     ensures faults { IfErr result (λ fault. (fault ≡ Fault.Device) ⊎ (fault ≡ Fault.Memory)) }
     // It is `Device` exactly where a call of the port failed.
@@ -44,7 +45,7 @@ pub fn ask<P: Port, C: Clock>(
     ensures well { result ≢ Err Fault.Device → P.failures port.new ≡ P.failures port.old }
 {
     let now = clock.now();
-    let mut node = start_node(own, question, now);
+    let mut node = start_node(own, first_id, question, now);
     let mut octets = ArrayVec::new();
     let ending = look_up(
         port,
@@ -60,9 +61,9 @@ pub fn ask<P: Port, C: Clock>(
 }
 
 /// The node that looks up.
-fn start_node(own: Addr, question: &Question, now: Moment) -> Node<1>
-    ensures { result ≡ started_node own question.now now }
+fn start_node(own: Addr, first_id: u16, question: &Question, now: Moment) -> Node<1>
+    ensures { result ≡ started_node own first_id question.now now }
 {
     let config = Config::new(LIFE, LONGEST, 1).unwrap();
-    Node::start(own, end_of(question), config, now)
+    Node::start_from(own, end_of(question), config, now, first_id)
 }

@@ -8,6 +8,7 @@
 
 mod answer;
 mod asking;
+mod ids;
 pub mod laws;
 mod lookup;
 mod lookup_turn;
@@ -18,6 +19,7 @@ mod turning;
 
 pub use answer::Answer;
 pub use asking::ask;
+pub use ids::{random_id, random_octets};
 pub use lookup::{Ending, look_up};
 pub use over_udp::ask_here;
 pub use patience::{TRIES_MOST, TRY, patience_of};

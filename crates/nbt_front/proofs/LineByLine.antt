@@ -4,10 +4,10 @@ use Rattle.std.proofs.lemmas.List.{drop_more}
 use Rattle.nbt_text.specs.Texts.{texts}
 use Rattle.nbt_text.specs.Lines.{lines}
 use Rattle.nbt_front.specs.FixedNames.{FixedNames}
-use Rattle.nbt_front.specs.Inner.Refusals.{IsRefusedBy, fault_at}
+use Rattle.nbt_front.specs.Inner.Refusals.{fault_at}
 use Rattle.nbt_front.specs.declared.fault.Refused.{Refused}
 use Rattle.nbt_front.specs.declared.fault.Refused.TheVariants.{Line, Memory}
-use Rattle.nbt_front.specs.Files.{Takes, LineFails, FileFails, Reads, no_line, one_line, Fails, at_this, behind}
+use Rattle.nbt_front.specs.Files.{IsRefusedBy, Takes, LineFails, FileFails, Reads, no_line, one_line, Fails, at_this, behind}
 use Rattle.nbt_front.specs.declared.fault.LineFault.{LineFault}
 
 module _ (all : List (Bor (List ℕ))) (i : ℕ) (names : FixedNames) where

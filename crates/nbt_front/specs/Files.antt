@@ -5,7 +5,7 @@ use Rattle.nbt_name.specs.Wire.{NameValue, IsStar, same_name}
 use Rattle.nbt_name.specs.declared.addr.Kind.{Kind}
 use Rattle.nbt_name.specs.declared.addr.Kind.TheVariants.{Unique, Group}
 use Rattle.nbt_show.specs.Holders.{kind_word}
-use Rattle.nbt_text.specs.Lines.{lines, words, IsPassedOver}
+use Rattle.nbt_text.specs.Lines.{lines, fields, HasNoField}
 use Rattle.nbt_text.specs.ScopedNames.{SpellsScopedName, MisspellsScopedName}
 use Rattle.nbt_text.specs.declared.casing.Case.TheVariants.{Folded}
 use Rattle.nbt_text.specs.declared.fault.Fault.{Fault}
@@ -15,14 +15,17 @@ use Rattle.nbt_front.specs.Numbers.{addrs_most, names_most}
 use Rattle.nbt_front.specs.declared.line.FixedLine.{FixedLine}
 use Rattle.nbt_front.specs.declared.fault.LineFault.{LineFault}
 use Rattle.nbt_front.specs.declared.fault.LineFault.TheVariants as f
+use Rattle.nbt_front.specs.declared.fault.Refused.{Refused}
+use Rattle.nbt_front.specs.declared.fault.Refused.TheVariants as refused
 use Rattle.nbt_front.specs.declared.fault.FileFault.{FileFault}
 use Rattle.nbt_front.specs.declared.fault.FileFault.TheVariants.{Line, Memory}
 
 -- ---- the words of a line, as in FILER#20 unique 192.0.2.7
 
--- an address of one machine: not 0.0.0.0, no multicast address (RFC 1112 section 4), and not 255.255.255.255 (RFC 919 section 7)
+-- an address of one machine: not of 0.0.0.0/8 (RFC 1122 section 3.2.1.3), no multicast address (RFC 1112 section 4), and not
+-- 255.255.255.255 (RFC 919 section 7)
 abbrev pub IsOfOne : (ip : ℕ) → Type 0
-IsOfOne ip = (ip ≢ 0) × (((ip < 0xE0000000) ⊎ (0xF0000000 ≤ ip)) × (ip ≢ 0xFFFFFFFF))
+IsOfOne ip = (0x01000000 ≤ ip) × (((ip < 0xE0000000) ⊎ (0xF0000000 ≤ ip)) × (ip ≢ 0xFFFFFFFF))
 
 -- the name as people write it, small letters as capitals
 abbrev pub SpellsFixedName : List ℕ → NameValue → Type 0
@@ -78,15 +81,20 @@ pub record Adds (old : FixedNames) (line : FixedLine) (new : FixedNames) : Type 
 abbrev pub said : (text : List ℕ) → List ℕ
 said text = strip_carriage_return text
 
--- A line adds what its words say; a remark, and a line of spaces alone, adds nothing.
+-- A line adds what its words say, between spaces and tabs; a remark, and a line of these alone, adds nothing.
 pub data Takes (old : FixedNames) (text : List ℕ) : FixedNames → Type 0 where
-  passed_over : IsPassedOver (said text) → Takes old text old
-  added : (line : FixedLine) (new : FixedNames) → ¬ IsPassedOver (said text) → SpellsLine (words (said text)) line → Adds old line new → Takes old text new
+  passed_over : HasNoField (said text) → Takes old text old
+  added : (line : FixedLine) (new : FixedNames) → ¬ HasNoField (said text) → SpellsLine (fields (said text)) line → Adds old line new → Takes old text new
 
 pub data LineFails (old : FixedNames) (text : List ℕ) : LineFault → Type 0 where
-  misspelled : (fault : LineFault) → ¬ IsPassedOver (said text) → Misspells (words (said text)) fault → LineFails old text fault
-  barred : (line : FixedLine) (fault : LineFault) → ¬ IsPassedOver (said text) → SpellsLine (words (said text)) line → IsBarred (length old) (fixed_of old line.name) line fault
+  misspelled : (fault : LineFault) → ¬ HasNoField (said text) → Misspells (fields (said text)) fault → LineFails old text fault
+  barred : (line : FixedLine) (fault : LineFault) → ¬ HasNoField (said text) → SpellsLine (fields (said text)) line → IsBarred (length old) (fixed_of old line.name) line fault
       → LineFails old text fault
+
+-- this is what a line isn't taken for; memory may be out at any step
+abbrev pub IsRefusedBy : (LineFault → Type 0) → Refused → Type 0
+IsRefusedBy FailsBy (refused.Line fault) = FailsBy fault
+IsRefusedBy FailsBy refused.Memory = Unit {0}
 
 -- ---- the whole file
 

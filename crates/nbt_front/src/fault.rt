@@ -81,7 +81,7 @@ impl From<AllocError> for FileFault {
 
 /// Why a line of the file isn't taken.
 #[derive(Clone, Copy, Debug, PartialEq, Eq)]
-pub(crate) enum Refused {
+pub enum Refused {
     /// Out of memory.
     Memory,
     /// This is wrong with it.

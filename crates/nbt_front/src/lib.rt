@@ -21,11 +21,11 @@ mod telling;
 
 pub use deciding::{Decision, Front};
 pub use desk::Desk;
-pub use fault::{FileFault, LineFault};
+pub use fault::{FileFault, LineFault, Refused};
 pub use fixed::{ADDRS_MOST, Fixed};
-pub use line::FixedLine;
+pub use line::{FixedLine, kind_in, take_line};
 pub use names::{FixedNames, NAMES_MOST};
-pub use network::{Network, read_network};
+pub use network::{Network, ip_in, read_network};
 pub use port::FrontPort;
 pub use reading::read_fixed;
 pub use standing::Standing;

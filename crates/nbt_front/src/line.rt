@@ -4,16 +4,18 @@ ghost use Rattle.std.specs.Prelude.{◌≡◌, ◌↔◌, ℕ, List, [], ◌∷�
 ghost use Rattle.nbt_text.specs.Texts.{texts};
 ghost use Rattle.nbt_text.specs.ScopedNames.{SpellsScopedName, MisspellsScopedName};
 ghost use Rattle.nbt_name.specs.declared.addr.Kind.{Kind as KindValue};
-ghost use Rattle.nbt_front.specs.Files.{IsOfOne, LineFails, Misspells, SpellsAddr, SpellsFixedName, SpellsKind, SpellsLine, Takes, said};
-ghost use Rattle.nbt_front.specs.Inner.Refusals.{IsRefusedBy};
+ghost use Rattle.nbt_front.specs.Files.{IsOfOne, IsRefusedBy, LineFails, Misspells, SpellsAddr, SpellsFixedName, SpellsKind, SpellsLine, Takes, said};
 
 use crate::fault::{LineFault, Refused};
 use crate::names::FixedNames;
 use crate::network::ip_in;
 use nbt_name::{Kind, Name};
 use nbt_show::kind_word;
-use nbt_text::{Case, read_scoped_name, words_said};
+use nbt_text::{Case, fields_said, read_scoped_name};
 use std::alloc::Global;
+
+/// The first address after 0.0.0.0/8, which is of no other machine (RFC 1122 section 3.2.1.3).
+const MACHINES_FIRST: u32 = 0x0100_0000;
 
 /// The first multicast address, 224.0.0.0, and the first one after them (RFC 1112 section 4).
 const MULTICAST_FIRST: u32 = 0xE000_0000;
@@ -34,12 +36,13 @@ pub struct FixedLine {
     pub addr: u32,
 }
 
-/// Takes a line of the file.
-pub(crate) fn take_line(alloc: Global, text: &[u8], names: &mut FixedNames) -> Result<(), Refused>
+/// Takes a line of the file of fixed names, as [`read_fixed`](crate::read_fixed) does. Refused with `Line` where it can't be taken, and
+/// with `Memory` if out of memory.
+pub fn take_line(alloc: Global, text: &[u8], names: &mut FixedNames) -> Result<(), Refused>
     ensures ok { OnOk result (Takes names.old text.now names.new) }
     ensures err { IfErr result (IsRefusedBy (LineFails names.old text.now)) }
 {
-    let Some(words) = words_said(alloc, said(text))? else {
+    let Some(words) = fields_said(alloc, said(text))? else {
         return Ok(());
     };
     match line_of(words.as_slice()) {
@@ -90,8 +93,8 @@ fn line_in(name: &[u8], kind: &[u8], addr: &[u8]) -> Result<FixedLine, LineFault
     Ok(FixedLine { name, kind, addr })
 }
 
-/// The kind that a word says.
-fn kind_in(word: &[u8]) -> Option<Kind>
+/// The kind that a word says, `unique` or `group`.
+pub fn kind_in(word: &[u8]) -> Option<Kind>
     ensures found { IfSome result (SpellsKind word.now) }
     ensures none { IfNone result ((kind : KindValue) → ¬ SpellsKind word.now kind) }
 {
@@ -109,5 +112,5 @@ fn is_of_one(ip: u32) -> bool
     ensures { IsTrue result ↔ IsOfOne ip }
 {
     let is_multicast = MULTICAST_FIRST <= ip && ip < MULTICAST_END;
-    ip != 0 && !is_multicast && ip != ALL
+    MACHINES_FIRST <= ip && !is_multicast && ip != ALL
 }

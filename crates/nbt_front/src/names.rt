@@ -1,19 +1,19 @@
 //! The names that are fixed.
 
 ghost use Rattle.std.specs.Prelude.{◌≡◌, ◌↔◌, ◌<◌, Some, None, [], IsTrue, IfSome, IfNone, OnOk, IfOk, IfErr, length};
-ghost use Rattle.nbt_front.specs.FixedNames.{fixed_of};
-ghost use Rattle.nbt_front.specs.Files.{Adds, IsBarred, Joins};
+ghost use Rattle.nbt_front.specs.FixedNames.{capitals_of, fixed_of};
+ghost use Rattle.nbt_front.specs.Files.{Adds, IsBarred, IsRefusedBy, Joins};
 ghost use Rattle.nbt_front.specs.Numbers.{names_most};
 ghost use Rattle.nbt_front.specs.Standing.{in_the_way, is_in_the_way};
-ghost use Rattle.nbt_front.specs.Inner.Refusals.{IsRefusedBy};
 
 use crate::fault::{LineFault, Refused};
 use crate::fixed::Fixed;
 use crate::line::FixedLine;
 use indexmap::IndexMap;
 use nbt_lease::Lease;
+use nbt_log::FixedCapitals;
 use nbt_name::Name;
-use std::alloc::Global;
+use std::alloc::{AllocError, Global};
 use std::marker::Model;
 
 /// How many names may be fixed (our profile).
@@ -65,6 +65,13 @@ impl FixedNames {
         self.names.get(name)
     }
 
+    /// The octets of each name in capitals, in their order: a resolver is told no host that reads like one of them.
+    pub fn capitals(&self, alloc: Global) -> Result<FixedCapitals, AllocError>
+        ensures { IfOk result (λ capitals. capitals ≡ capitals_of self.now) }
+    {
+        capitals_in(alloc, &self.names)
+    }
+
     /// Leaves of these leases those that stand in the way of one of the names.
     pub fn retain_in_the_way(&self, rows: &mut Vec<(Name, Lease)>)
         ensures { rows.new.items ≡ in_the_way self.now rows.old.items }
@@ -111,4 +118,17 @@ impl FixedNames {
             }
         }
     }
+}
+
+/// The octets of each name in capitals.
+fn capitals_in(alloc: Global, names: &IndexMap<Name, Fixed>) -> Result<FixedCapitals, AllocError>
+    ensures { IfOk result (λ capitals. capitals ≡ capitals_of names.now.entries) }
+{
+    let mut capitals = FixedCapitals::none(alloc);
+    let mut rest = names.as_slice();
+    'names: while let Some(((name, _), others)) = rest.split_first() {
+        capitals.add(name.octets())?;
+        rest = others;
+    }
+    Ok(capitals)
 }

@@ -87,8 +87,8 @@ fn bits_in(digits: &[u8]) -> Option<u32>
     Some(bits as u32)
 }
 
-/// The address that a text spells.
-pub(crate) fn ip_in(text: &[u8]) -> Option<u32>
+/// The address that a text spells, A.B.C.D in decimal.
+pub fn ip_in(text: &[u8]) -> Option<u32>
     ensures found { IfSome result (SpellsIp text.now) }
     ensures none { IfNone result ((ip : ℕ) → ¬ SpellsIp text.now ip) }
 {

@@ -10,7 +10,7 @@ use crate::names::FixedNames;
 use nbt_text::lines_of;
 use std::alloc::Global;
 
-/// Reads the octets of a file of fixed names: lines as `FILER#20 unique 192.0.2.7`, whose words stand between spaces, with small
+/// Reads the octets of a file of fixed names: lines as `FILER#20 unique 192.0.2.7`, whose words stand between spaces and tabs, with small
 /// letters of names taken as capitals. A line ends with a line feed, or with a carriage return and a line feed. Several lines of a
 /// group are its addresses. A line that begins with `#` is a remark; it is passed over, as an empty one is. Refused with `Line` at
 /// the first line that can't be taken, with its number, from 1 on, and what is wrong with it; and with `Memory` if out of memory.

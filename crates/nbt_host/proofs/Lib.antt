@@ -16,6 +16,8 @@ pub mod Turns
 pub mod Releases
 -- the lines of names, one after the other
 mod Lines
+-- what a port has noted after a turn's calls
+pub mod NotedCalls
 -- one turn, by what its calls returned
 mod OneTurn
 -- a turn of which nothing is printed

@@ -1,8 +1,13 @@
 -- The lines of names, one after the other.
-use Rattle.std.proofs.Common.{◌≡◌, ℕ, ◌+◌, ◌<◌, List, [], ◌∷◌, ◌++◌, length, take, get_or, sym, subst, ◌∙◌, ap, arith, append-nil}
+use Rattle.std.proofs.Common.{◌≡◌, ℕ, ◌+◌, ◌<◌, List, [], ◌∷◌, ◌++◌, length, take, get_or, sym, subst, ◌∙◌, ap, arith, append-nil, append_assoc}
 use Rattle.std.proofs.lemmas.List.{take_more, take_all}
 use Rattle.nbt_text.proofs.Joining.{two_parts}
 use Rattle.nbt_host.specs.TurnLines.{TellsAll, of_none, of_next}
+
+-- six texts, one after the other
+pub six_parts : (old a b c d e f one two three four five new : List ℕ) → one ≡ old ++ a → two ≡ one ++ b → three ≡ two ++ c → four ≡ three ++ d → five ≡ four ++ e → new ≡ five ++ f
+    → new ≡ old ++ (a ++ b ++ c ++ d ++ e ++ f)
+six_parts old a b c d e f one two three four five new g h i j k l = rw (l, k, j, i, h, g) (simp append_assoc)
 
 abbrev pub Told : {A : Type 0} → (A → List ℕ → Type 0) → List A → (before after : List ℕ) → Type 0
 Told tells goals before after = (text : List ℕ) × TellsAll tells goals text × (after ≡ before ++ text)

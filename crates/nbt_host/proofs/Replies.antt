@@ -2,10 +2,7 @@
 use Rattle.std.proofs.Common.{◌≡◌, ℕ, ◌<◌, List, [], ◌∷◌, Some, None, Ok, Err, refl, sym, subst}
 use Rattle.std.specs.Prelude.{Option, Result, OnOk, OnErr}
 use Rattle.nbt_name.specs.declared.addr.Addr.{Addr}
-use Rattle.nbt_name.specs.Wire.{NameValue}
-use Rattle.nbt_packet.specs.declared.message.Message.{Message}
-use Rattle.nbt_packet.specs.declared.message.Message.TheVariants as m
-use Rattle.nbt_packet.specs.Message.{MessageValue, message_of}
+use Rattle.nbt_packet.specs.Message.{MessageValue}
 use Rattle.nbt_node.specs.Node.{NodeValue}
 use Rattle.nbt_node.specs.Moves.{Told}
 use Rattle.nbt_node.specs.Datagrams.{Handles, Says}
@@ -14,7 +11,7 @@ use Rattle.nbt_port.specs.declared.port.Route.{Route}
 use Rattle.nbt_port.specs.PortCalls.{PortCall, came, sent, send_failed, sending, receiving, Chain}
 use Rattle.nbt_port.proofs.Chains.{chain_one}
 use Rattle.nbt_host.specs.declared.news.Notice.{Notice}
-use Rattle.nbt_node.specs.Answering.{own_reply, sent_back}
+use Rattle.nbt_node.specs.Answering.{sent_back}
 use Rattle.nbt_host.specs.Noticing.{doubted, notice_of}
 use Rattle.nbt_host.specs.Hosting.{sending_to, doubting, HostHears, hears_nothing, hears, hears_back, LosesReply, loses_reply}
 

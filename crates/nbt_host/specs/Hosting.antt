@@ -88,11 +88,11 @@ pub record Terms : Type 0 where
   pub server : Addr
   pub config : ConfigValue
 
--- The id of the first request of a life. Both clocks go on between two starts, by 2,000 a second together, and a life needs a few
--- ids a second: so a life's ids differ from those of the life before, unless it starts a multiple of 32,768 ms after it, or a clock
--- was set. A clock that begins anew with the machine, or stands, leaves the other.
+-- The id of the first request of a life. The salt is a number that a host chose at its start, and that nobody else can guess. Both clocks go
+-- on between two lives of one host, by 2,000 a second together, and a life needs a few ids a second: so a life's ids differ from those
+-- of the life before, unless it starts a multiple of 32,768 ms after it, or a clock was set.
 abbrev pub first_id : Look → ℕ
-first_id look = (look.at + look.day) % 65536
+first_id look = (look.at + look.day + look.salt) % 65536
 
 -- a host whose machine crashed and started at a look: the node knows nothing, and rests
 abbrev pub started_again : Terms → Look → HostValue → HostValue

@@ -12,6 +12,7 @@ pub mod ReleaseTurns
 pub mod Releases
 pub mod Releasing
 pub mod Running
+pub mod Servers
 pub mod Sleeping
 pub mod Staying
 pub mod Ticks

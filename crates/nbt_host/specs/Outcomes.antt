@@ -1,5 +1,5 @@
 -- What is printed of names that were given back (our profile).
-use Rattle.std.specs.Prelude.{◌≡◌, ℕ, Bool, false, ◌||◌, nat_eq, if◌then◌else◌, List, [], ◌∷◌, ◌++◌, Option, Some, None, codes}
+use Rattle.std.specs.Prelude.{◌≡◌, ℕ, Bool, false, ◌||◌, nat_eq, if◌then◌else◌, List, ◌++◌, Option, Some, None, codes}
 use Rattle.nbt_text.specs.Lines.{newline}
 use Rattle.nbt_log.specs.Lines.{reason_text}
 use Rattle.nbt_text.specs.ScopedNames.{PrintsWord}

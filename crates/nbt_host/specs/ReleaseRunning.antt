@@ -13,20 +13,17 @@ use Rattle.nbt_host.specs.ReleaseTurns.{Releases, turns_most}
 use Rattle.nbt_host.specs.Outcomes.{IsOutcomeLine, is_confirmed}
 use Rattle.nbt_host.specs.TurnLines.{TellsAll}
 
--- The clock is read, the names are given back, and a line is printed for each. It tells whether all were confirmed.
-pub record ReleasesOver {P C : Type 0} (does : P → PortCall → P → Type 0) (tells : C → ℕ → C → Type 0) (bind server : Addr) (wants : List Want) (all : Bool)
+-- The names are given back, with ids from the first on, and a line is printed for each. It tells whether all were confirmed.
+pub record ReleasesOver {P C : Type 0} (does : P → PortCall → P → Type 0) (tells : C → ℕ → C → Type 0) (bind server : Addr) (first_id : ℕ) (wants : List Want) (all : Bool)
     (old_port : P) (old_clock : C) (old_text : Option (List ℕ)) (port : P) (clock : C) (text : Option (List ℕ)) : Type 0 where
-  pub number : ℕ
-  pub read : C
   pub ended : List Release
   pub lines : List ℕ
-  pub told : tells old_clock number read
-  pub releases : Releases does tells server bind.ip turns_most (record { clock = read; here = record { port = old_port; releases = fresh_all number wants } }) (record { clock = clock; here = record { port = port; releases = ended } })
+  pub releases : Releases does tells server bind.ip turns_most (record { clock = old_clock; here = record { port = old_port; releases = fresh_all first_id wants } }) (record { clock = clock; here = record { port = port; releases = ended } })
   pub lines_are : TellsAll IsOutcomeLine ended lines
   pub printed : Appends old_text text lines
   pub all_is : all ≡ list_all is_confirmed ended
 
--- over a UDP port of this machine that was bound to this address, and its steady clock
+-- over a UDP port of this machine that was bound to this address, and its steady clock, with some first id
 abbrev pub ReleasesHere : (bind server : Addr) → List Want → (all : Bool) → (old_text text : Option (List ℕ)) → Type 0
-ReleasesHere bind server wants all old_text text = (first : ℕ) × (port : UdpValue) × (clock : ℕ) × SteadyBegins SystemShows first
-    × ReleasesOver UdpDoes (SteadyTells SystemShows) bind server wants all (record { addr = bind; failures = 0 }) first old_text port clock text
+ReleasesHere bind server wants all old_text text = (first_id : ℕ) × (first : ℕ) × (port : UdpValue) × (clock : ℕ) × SteadyBegins SystemShows first
+    × ReleasesOver UdpDoes (SteadyTells SystemShows) bind server first_id wants all (record { addr = bind; failures = 0 }) first old_text port clock text

@@ -29,14 +29,14 @@ pub record IsOverAt {P K : Type 0} (does : P → PortCall → P → Type 0) (tel
   pub all_is : all ≡ list_all (is_held stayed.host.host.node now) stayed.host.host.goals
   pub goes_on : goes (record stayed { host = record stayed.host { watch = read } }) new
 
--- Then the names are given back. It tells whether all were held before that.
+-- Then the names are given back to the server that is asked then. It tells whether all were held before that.
 abbrev pub RunsHost : {P K : Type 0} → (P → PortCall → P → Type 0) → (K → ℕ → K → Type 0) → (K → Look → K → Type 0) → HostArguments → (until : Option ℕ) → (all : Bool) → Running P K → Running P K → Type 0
-RunsHost does tells looks a until all old new = IsOverAt does tells looks a until (GivesBack does tells looks (terms_of a)) old all new
+RunsHost does tells looks a until all old new = IsOverAt does tells looks a until (λ stayed end. GivesBack does tells looks (terms_of a stayed.host.asked) stayed end) old all new
 
 -- It ends before its time, or while the names are given back.
 pub data RunFails {P K : Type 0} (does : P → PortCall → P → Type 0) (tells : K → ℕ → K → Type 0) (looks : K → Look → K → Type 0) (a : HostArguments) (until : Option ℕ) : Fault → Running P K → Running P K → Type 0 where
   before : (fault : Fault) (old new : Running P K) → HostingFails does tells looks a until fault old new → RunFails does tells looks a until fault old new
-  at_the_end : (fault : Fault) (all : Bool) (old new : Running P K) → IsOverAt does tells looks a until (GivingBackFails does tells looks (terms_of a) fault) old all new → RunFails does tells looks a until fault old new
+  at_the_end : (fault : Fault) (all : Bool) (old new : Running P K) → IsOverAt does tells looks a until (λ stayed end. GivingBackFails does tells looks (terms_of a stayed.host.asked) fault stayed end) old all new → RunFails does tells looks a until fault old new
 
 -- A host starts, the first line is printed, and it goes on from there.
 pub record Begins {P K : Type 0} (looks : K → Look → K → Type 0) (at : Addr) (a : HostArguments) (goes : (until : Option ℕ) → Running P K → Running P K → Type 0)
@@ -54,9 +54,9 @@ HostsOver does tells looks at a all old_port watch old_text port text = Begins l
 abbrev pub HostOverFails : {P K : Type 0} → (P → PortCall → P → Type 0) → (K → ℕ → K → Type 0) → (K → Look → K → Type 0) → (at : Addr) → HostArguments → Fault → P → K → (old_text : Option (List ℕ)) → P → (text : Option (List ℕ)) → Type 0
 HostOverFails does tells looks at a fault old_port watch old_text port text = Begins looks at a (λ until old new. RunFails does tells looks a until fault old new) old_port watch old_text port text
 
--- over a UDP port of this machine that was bound to this address, its steady clock, and its time of day
+-- over a UDP port of this machine that was bound to this address, its steady clock, and its time of day, with some salt
 abbrev pub Here : HostArguments → (UdpValue → WatchedClocks ℕ ℕ → UdpValue → Addr → Type 0) → Type 0
-Here a goes = (at : Addr) × (steady : ℕ) × (day : ℕ) × (port : UdpValue) × SteadyBegins SystemShows steady × goes (record { addr = a.bind; failures = 0 }) (unwatched steady day) port at
+Here a goes = (at : Addr) × (steady : ℕ) × (day : ℕ) × (salt : ℕ) × (port : UdpValue) × SteadyBegins SystemShows steady × goes (record { addr = a.bind; failures = 0 }) (unwatched steady day salt) port at
 
 -- the steady clock of this machine, and a look at both clocks
 abbrev pub TellsHere : WatchedClocks ℕ ℕ → (moment : ℕ) → WatchedClocks ℕ ℕ → Type 0

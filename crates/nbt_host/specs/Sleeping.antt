@@ -49,14 +49,16 @@ pub record LooksAt {C D : Type 0} (tells : C → ℕ → C → Type 0) (tells_da
   pub anchor_is : new.anchor ≡ Some (next_anchor look.slept old.anchor reading)
   pub at_is : look.at ≡ reading.after
   pub day_is : look.day ≡ reading.day
+  pub salt_is : look.salt ≡ old.salt
+  pub salt_stays : new.salt ≡ old.salt
 
 -- the steady clock alone is read
 abbrev pub SteadyAlone : {C D : Type 0} → (C → ℕ → C → Type 0) → WatchedClocks C D → (moment : ℕ) → WatchedClocks C D → Type 0
 SteadyAlone tells old moment new = tells old.clocks.steady moment new.clocks.steady × (new.clocks.day ≡ old.clocks.day) × (new.anchor ≡ old.anchor)
 
 -- clocks that were not looked at yet
-abbrev pub unwatched : {C D : Type 0} → C → D → WatchedClocks C D
-unwatched steady day = record { clocks = record { steady = steady; day = day }; anchor = None }
+abbrev pub unwatched : {C D : Type 0} → C → D → (salt : ℕ) → WatchedClocks C D
+unwatched steady day salt = record { clocks = record { steady = steady; day = day }; anchor = None; salt = salt }
 
 -- ---- the looks of a turn
 

@@ -1,11 +1,13 @@
 -- What a host prints of a turn (our profile).
 use Rattle.std.specs.Prelude.{◌≡◌, ℕ, Bool, true, false, nat_eq, is_some, ◌||◌, List, [], ◌∷◌, ◌++◌, Option, Some, None, codes}
 use Rattle.std.specs.Bool.{then_some}
+use Rattle.std.specs.Fmt.{decimal}
 use Rattle.std.specs.List.{list_any}
 use Rattle.nbt_name.specs.Wire.{NameValue}
 use Rattle.nbt_name.specs.declared.addr.Addr.{Addr}
 use Rattle.nbt_text.specs.Address.{address_text}
 use Rattle.nbt_text.specs.Lines.{newline}
+use Rattle.nbt_host.specs.declared.asked.Asked.{Asked}
 use Rattle.nbt_host.specs.declared.goal.Goal.{Goal}
 use Rattle.nbt_host.specs.declared.goal.Refusal.{Refusal}
 use Rattle.nbt_host.specs.declared.news.News.{News}
@@ -84,3 +86,17 @@ is_told log goal = goal.lapsed || is_some (news_of log goal.news)
 
 abbrev pub has_lines : (log slept : Bool) → List Goal → Bool
 has_lines log slept goals = slept || (list_any tells_silence goals || list_any (is_told log) goals)
+
+-- for how long a server was silent
+abbrev pub span_text : (seconds : ℕ) → List ℕ
+span_text seconds = codes " for " ++ decimal seconds ++ codes " s: goes on with "
+
+-- that a server was silent for so many seconds, and who is asked from then on
+abbrev pub IsGoingOnLine : (second seconds : ℕ) → (server next : Addr) → List ℕ → Type 0
+IsGoingOnLine second seconds server next line = (time : List ℕ) × IsTimeText second time
+    × (line ≡ time ++ codes " no reply from " ++ address_text server ++ span_text seconds ++ address_text next ++ newline)
+
+-- the same, if another server is asked
+abbrev pub IsChangeLine : (second seconds : ℕ) → (server : Addr) → Option Asked → List ℕ → Type 0
+IsChangeLine second seconds server None line = line ≡ []
+IsChangeLine second seconds server (Some next) line = IsGoingOnLine second seconds server next.server line

@@ -11,6 +11,8 @@ pub struct HostArguments {
     pub bind: Addr,
     /// Those of its name server.
     pub server: Addr,
+    /// Further ones of its name server's table, which are asked in turn where the one before is silent.
+    pub others: Vec<Addr>,
     /// The limits.
     pub config: Config,
     /// The names that it requests, each once, 14 at most: one more is never requested.

@@ -7,11 +7,10 @@ ghost use Rattle.nbt_node.specs.Node.{NodeValue, slots_most};
 ghost use Rattle.nbt_log.specs.Dates.{second_at};
 ghost use Rattle.nbt_host.specs.Goals.{in_full, wanted, is_held};
 ghost use Rattle.nbt_host.specs.Begin.{begin_text};
-ghost use Rattle.nbt_host.specs.Host.{dates_of, terms_of, Starts, CantPrint};
-ghost use Rattle.nbt_host.specs.TurnLines.{has_lines};
+ghost use Rattle.nbt_host.specs.Host.{dates_of, terms_of, going_on_with, moved, Starts, CantPrint};
 ghost use Rattle.nbt_host.specs.Hosting.{HostTurn, HostBreaks};
 ghost use Rattle.nbt_host.specs.Inner.Through.{Through};
-ghost use Rattle.nbt_host.specs.Turning.{PrintsTurn, TurnsWell, TurnsBadly, TurnIsCut};
+ghost use Rattle.nbt_host.specs.Turning.{PrintsTurn, prints_lines, TurnsWell, TurnsBadly, TurnIsCut};
 ghost use Rattle.nbt_port.specs.Numbers.{forever};
 ghost use Rattle.nbt_port.specs.Staying.{StaysUntil};
 ghost use Rattle.nbt_host.specs.Staying.{TurnsOn, TurnsLast, HostingFails};
@@ -19,12 +18,14 @@ ghost use Rattle.nbt_host.specs.ReleaseLines.{PrintsEnding, GivesBack, GivingBac
 ghost use Rattle.nbt_host.specs.Running.{RunsHost, RunFails};
 
 use crate::arguments::HostArguments;
+use crate::asked::Asked;
 use crate::begin::write_begin;
 use crate::goal::Goal;
+use crate::noting::noted_turn;
 use crate::release_lines::write_endings;
 use crate::releasing::give_back;
-use crate::turn_lines::{has_lines, write_turn};
-use crate::turning::host_turn;
+use crate::turn_lines::{has_lines, write_change, write_turn};
+use crate::turning::start_again;
 use crate::watching::{Look, Watch};
 use nbt_client::{SLOTS, Want};
 use nbt_lease::{Config, Moment};
@@ -49,13 +50,14 @@ pub struct Shown {
     pub at: Moment,
 }
 
-/// A host: its names, its node, and the clocks of its machine. A contract sees the clocks, what they told last, the names and the
-/// node.
+/// A host: its names, its node, the server that it asks, and the clocks of its machine. A contract sees the clocks, what they told last,
+/// the server, the names and the node.
 #[derive(Drop)]
 pub struct Host<K> {
     alloc: Global,
     watch: K,
     last: Look,
+    asked: Asked,
     goals: Vec<Goal>,
     node: Node<SLOTS>,
 }
@@ -65,7 +67,7 @@ impl<K> Model for Host<K> {
 
     ghost Value = { HostingValue K };
 
-    ghost view = { λ h. record { watch = h.watch; last = h.last; host = record { goals = h.goals.items; node = h.node } } };
+    ghost view = { λ h. record { watch = h.watch; last = h.last; asked = h.asked; host = record { goals = h.goals.items; node = h.node } } };
 }
 
 impl<K> Host<K> {
@@ -107,29 +109,68 @@ impl<K> Host<K> {
         }
     }
 
-    /// Prints what a turn showed, if anything, at once. Where there is nothing it isn't refused.
+    /// Who is asked from the last look on, in place of a server that is silent.
+    fn going_on_with(&self, arguments: &HostArguments) -> Option<Asked>
+        ensures { result ≡ going_on_with arguments.now self.now }
+    {
+        self.asked.next(arguments, self.last.at)
+    }
+
+    /// Asks another server, if the one before is silent: the host is from its last look on as one whose machine crashed and started.
+    fn move_on(&mut self, arguments: &HostArguments)
+        ensures { self.new ≡ moved arguments.now self.old }
+    {
+        let Some(asked) = self.going_on_with(arguments) else {
+            return;
+        };
+        let server = asked.server;
+        let config = arguments.config;
+        let goals = self.goals.as_mut_slice();
+        start_again(&mut self.node, goals, server, config, &self.last);
+        self.asked = asked;
+    }
+
+    /// Prints what a turn showed, if anything, at once, and last that another server is asked from then on, if one is. Where there is
+    /// nothing it isn't refused.
     fn tell_turn<W: Write, E: Write>(
         &self,
-        log: bool,
-        server: Addr,
+        arguments: &HostArguments,
         shown: &Shown,
         writer: &mut W,
         errors: &mut E,
     ) -> Result<(), Fault>
-        ensures ok { OnOk result (PrintsTurn log server shown.now self.now.last self.now.host.goals (W.contents writer.old) (W.contents writer.new)) }
-        ensures err { IfErr result (λ fault. CantPrint fault × (has_lines log shown.now.slept self.now.host.goals ≡ true)) }
+        ensures ok { OnOk result (PrintsTurn arguments.now shown.now self.now (W.contents writer.old) (W.contents writer.new)) }
+        ensures err { IfErr result (λ fault. CantPrint fault × (prints_lines arguments.now shown.now self.now ≡ true)) }
     {
-        let goals = self.goals.as_slice();
-        if !has_lines(log, shown.slept, goals) {
+        if !self.prints_lines(arguments, shown) {
             return Ok(());
         }
         let second = self.second_at(shown.at);
+        let log = arguments.log;
+        let server = self.asked.server;
+        let next = self.going_on_with(arguments);
         let mut text = String::new(self.alloc);
-        write_turn(second, log, server, shown.slept, goals, &mut text)?;
+        write_turn(
+            second,
+            log,
+            server,
+            shown.slept,
+            self.goals.as_slice(),
+            &mut text,
+        )?;
+        write_change(second, arguments.config.longest(), server, next, &mut text)?;
         match print(text.as_str(), writer) {
             Ok(()) => Ok(()),
             Err(error) => Err(not_printed(error, errors)),
         }
+    }
+
+    /// Whether something is printed of a turn.
+    fn prints_lines(&self, arguments: &HostArguments, shown: &Shown) -> bool
+        ensures { result ≡ prints_lines arguments.now shown.now self.now }
+    {
+        self.going_on_with(arguments).is_some()
+            || has_lines(arguments.log, shown.slept, self.goals.as_slice())
     }
 
     /// Prints what came of giving the names back, at once.
@@ -160,8 +201,8 @@ impl<K> Host<K> {
 }
 
 impl<K: Watch + Drop> Host<K> {
-    /// A host on a machine with these clocks, which knows nothing of its names. It starts at the moment of a first look at them, and
-    /// rests first; its ids count from [`Look::first_id`]. Refused where memory is.
+    /// A host on a machine with these clocks, which knows nothing of its names, and asks the first of its servers. It starts at the moment
+    /// of a first look at them, and rests first; its ids count from [`Look::first_id`]. Refused where memory is.
     pub fn start(
         alloc: Global,
         mut watch: K,
@@ -182,6 +223,7 @@ impl<K: Watch + Drop> Host<K> {
             alloc,
             watch,
             last,
+            asked: Asked::begin(arguments.server, 0, last.at),
             goals,
             node,
         })
@@ -189,20 +231,22 @@ impl<K: Watch + Drop> Host<K> {
 }
 
 impl<K: Clock + Watch> Host<K> {
-    /// One turn, as [`host_turn`] does it.
+    /// One turn at the server that is asked, as `host_turn` does it, and whether that one was heard or asked in it.
     fn turn<P: Port>(&mut self, port: &mut P, arguments: &HostArguments) -> Result<(), Device>
         ensures ok { OnOk result (Through HostTurn P.does K.looks arguments.now port.old self.old port.new self.new) }
         ensures err { OnErr result (Through HostBreaks P.does K.looks arguments.now port.old self.old port.new self.new) }
     {
-        host_turn(
+        let (noted, turned) = noted_turn(
             port,
             &mut self.watch,
             &mut self.node,
-            arguments.server,
+            self.asked.server,
             arguments.config,
             self.goals.as_mut_slice(),
             &mut self.last,
-        )
+        );
+        self.asked = self.asked.after_turn(noted, self.last.at);
+        turned
     }
 
     /// What the turn showed. The steady clock is read.
@@ -217,8 +261,8 @@ impl<K: Clock + Watch> Host<K> {
         }
     }
 
-    /// One turn, and what is printed of it, also where a call of the port fails. Returns what it showed, or `Device` where a call
-    /// failed. Refused: `Output` where the lines can't be written, for which `errors` has the reason, and `Memory` where memory is refused
+    /// One turn, and what is printed of it, also where a call of the port fails; then another server is asked, if the one before is
+    /// silent. Returns what it showed, or `Device` where a call failed. Refused: `Output` where the lines can't be written, for which `errors` has the reason, and `Memory` where memory is refused
     /// for them.
     fn go<P: Port, W: Write, E: Write>(
         &mut self,
@@ -237,7 +281,8 @@ impl<K: Clock + Watch> Host<K> {
     {
         let turned = self.turn(port, arguments);
         let shown = self.shown();
-        self.tell_turn(arguments.log, arguments.server, &shown, writer, errors)?;
+        self.tell_turn(arguments, &shown, writer, errors)?;
+        self.move_on(arguments);
         match turned {
             Ok(_) => Ok(Ok(shown)),
             Err(failure) => Ok(Err(failure)),
@@ -274,7 +319,7 @@ impl<K: Clock + Watch> Host<K> {
         stay_up(&mut turn, FOREVER, machine, errors)
     }
 
-    /// Gives all names back, as [`give_back`] does, and prints what came of each, at once, also where the port failed. Refused:
+    /// Gives all names back to the server that is asked, as [`give_back`] does, and prints what came of each, at once, also where the port failed. Refused:
     /// `Device` at the first call of the port that fails; `Output`, for which `errors` has the reason, and `Memory` where the lines can't be
     /// printed.
     pub fn end<P: Port, W: Write, E: Write>(
@@ -284,16 +329,17 @@ impl<K: Clock + Watch> Host<K> {
         writer: &mut W,
         errors: &mut E,
     ) -> Result<(), Fault>
-        ensures ok { OnOk result (GivesBack P.does K.tells K.looks (terms_of arguments.now)
+        ensures ok { OnOk result (GivesBack P.does K.tells K.looks (terms_of arguments.now self.old.asked)
             (record { port = port.old; host = self.old; text = W.contents writer.old }) (record { port = port.new; host = self.new; text = W.contents writer.new })) }
-        ensures err { IfErr result (λ fault. GivingBackFails P.does K.tells K.looks (terms_of arguments.now) fault
+        ensures err { IfErr result (λ fault. GivingBackFails P.does K.tells K.looks (terms_of arguments.now self.old.asked) fault
             (record { port = port.old; host = self.old; text = W.contents writer.old }) (record { port = port.new; host = self.new; text = W.contents writer.new })) }
     {
+        let present = self.asked.server;
         let given = give_back(
             port,
             &mut self.watch,
             &mut self.node,
-            arguments.server,
+            present,
             arguments.config,
             self.goals.as_mut_slice(),
             &mut self.last,

@@ -12,6 +12,9 @@
 //! 2026-11-24T09:12:03Z asks again for FILER#00 after 5 s, 10 s .. at most 5 min
 //! ```
 //!
+//! A host may have several servers, which are addresses of one table. It asks one of them. Where that one is silent for as long as a lease
+//! may be, the host is as one whose machine crashed and started, and asks the next ([`Asked`]).
+//!
 //! A [`Release`] is a name that a host which has ended left at its server (RFC 1002 sections 4.2.9 to 4.2.11). [`release_all`] sends
 //! the requests and takes the replies; [`write_outcomes`] prints what came of each name; [`run_release`] does both on this system, at
 //! the address and the port of the host, which therefore doesn't run beside it:
@@ -24,6 +27,7 @@
 #![tactic(auto)]
 
 mod arguments;
+mod asked;
 mod begin;
 mod event;
 mod goal;
@@ -31,6 +35,7 @@ mod hearing;
 mod host;
 pub mod laws;
 mod news;
+mod noting;
 mod outcomes;
 mod release;
 mod release_hearing;
@@ -47,6 +52,7 @@ mod turning;
 mod watching;
 
 pub use arguments::HostArguments;
+pub use asked::{Asked, Noted, TRIED};
 pub use begin::write_begin;
 pub use event::{Event, write_event};
 pub use goal::{Goal, Refusal, Stage};
@@ -60,6 +66,6 @@ pub use release_turns::{TURNS_MOST, release_all};
 pub use releasing::{GIVING_BACK, give_back};
 pub use running::{host_over, run_host};
 pub use sleeping::{Clocks, Reading, SLEEP, TwoClocks};
-pub use turn_lines::{has_lines, write_turn};
+pub use turn_lines::{has_lines, write_change, write_turn};
 pub use turning::host_turn;
 pub use watching::{Look, Watch, WatchedClocks};

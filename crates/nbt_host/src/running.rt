@@ -7,23 +7,25 @@ use crate::arguments::HostArguments;
 use crate::host::Host;
 use crate::sleeping::Clocks;
 use crate::watching::{Watch, WatchedClocks};
+use nbt_client::random_id;
 use nbt_name::Addr;
 use nbt_port::{
-    Clock, Fault, Port, bound_port, local_of, readable_clock, steady_clock, tell_end_of, until_of,
+    Clock, Fault, Port, local_of, own_port, readable_clock, steady_clock, tell_end_of, until_of,
 };
 use std::alloc::Global;
 use std::io::Write;
 use std::net::Net;
+use std::random::RandomSource;
 use std::time;
 
 /// Runs a host on a UDP port of this system, over the monotonic clock and its time of day. It first prints which host asks
-/// which server for how many names, and then holds them until its time is over, and goes on when the port fails, as
-/// [`Host::stay`] does; then it releases them. Returns whether all were held when its time was over. Refused: `NoPort` where
-/// the port can't be bound; `NoClock` where a clock can't be read at first; `Device` at the hundredth turn in a row that fails,
+/// which server for how many names, the first of several, and then holds them until its time is over, and goes on when the port fails, as
+/// [`Host::stay`] does; then it releases them. Its ids begin at one that nobody can guess. Returns whether all were held when its time was
+/// over. Refused: `NoPort` where the port can't be bound, or the system gives no such number; `NoClock` where a clock can't be read at first; `Device` at the hundredth turn in a row that fails,
 /// and at the first failure while the names are released; `Output` where a line can't be written; `Memory` where it is out of
 /// memory. Of each but the last a line in `errors` says what failed, and why: which call of the system, for which address, or the
-/// output. Where a request to the server has no route, a line there says so once, and another when it has one again.
-pub fn run_host<M: Net + time::Clock, W: Write, E: Write>(
+/// output. Where a request to the first server has no route, a line there says so once, and another when it has one again.
+pub fn run_host<M: Net + time::Clock + RandomSource, W: Write, E: Write>(
     machine: &M,
     alloc: Global,
     arguments: &HostArguments,
@@ -33,7 +35,8 @@ pub fn run_host<M: Net + time::Clock, W: Write, E: Write>(
     ensures ok { IfOk result (λ all. HostsHere arguments.now all (W.contents writer.old) (W.contents writer.new)) }
     ensures device { result ≡ Err Fault.Device → HostFailsHere arguments.now Fault.Device (W.contents writer.old) (W.contents writer.new) }
 {
-    let mut port = bound_port(machine, arguments.bind, errors).map_err(|_| Fault::NoPort)?;
+    let mut port = own_port(machine, arguments.bind, errors).map_err(|_| Fault::NoPort)?;
+    let salt = random_id(machine, errors)?;
     let steady = steady_clock(machine, arguments.bind, errors)?;
     let day = readable_clock(machine, arguments.bind, errors)?;
     port.watch(arguments.server);
@@ -41,6 +44,7 @@ pub fn run_host<M: Net + time::Clock, W: Write, E: Write>(
     let watch = WatchedClocks {
         clocks: Clocks { steady, day },
         anchor: None,
+        salt,
     };
     host_over(
         &mut port, watch, alloc, at, arguments, machine, writer, errors,

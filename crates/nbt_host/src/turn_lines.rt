@@ -3,8 +3,9 @@
 ghost use Rattle.std.specs.Prelude.{◌≡◌, ◌++◌, ℕ, List, OnOk};
 ghost use Rattle.std.specs.List.{list_any};
 ghost use Rattle.std.specs.String.{string_bytes};
-ghost use Rattle.nbt_host.specs.TurnLines.{lapse_of, news_of, again_of, IsLineIf, IsSleepLine, IsSilenceLine, is_told, tells_silence, has_lines, TellsGoal, TellsAll, TellsTurn};
+ghost use Rattle.nbt_host.specs.TurnLines.{lapse_of, news_of, again_of, IsLineIf, IsSleepLine, IsSilenceLine, IsGoingOnLine, IsChangeLine, span_text, is_told, tells_silence, has_lines, TellsGoal, TellsAll, TellsTurn};
 
+use crate::asked::Asked;
 use crate::event::{Event, write_event};
 use crate::goal::{Goal, Refusal};
 use crate::news::News;
@@ -60,6 +61,47 @@ fn write_silence(
     out.push_str(" no reply yet from ")?;
     write_address(server, out)?;
     end_line(out)
+}
+
+/// Appends that a server was silent for so many seconds, and who is asked from then on, if another one is.
+pub fn write_change(
+    second: u64,
+    seconds: u32,
+    server: Addr,
+    next: Option<Asked>,
+    out: &mut String,
+) -> Result<(), AllocError>
+    ensures { OnOk result ((text : List ℕ) × IsChangeLine second seconds server next text × (string_bytes out.new ≡ string_bytes out.old ++ text)) }
+{
+    match next {
+        Some(next) => write_going_on(second, seconds, server, next.server, out),
+        None => Ok(()),
+    }
+}
+
+/// Appends that a server was silent for so many seconds, and who is asked from then on.
+fn write_going_on(
+    second: u64,
+    seconds: u32,
+    server: Addr,
+    next: Addr,
+    out: &mut String,
+) -> Result<(), AllocError>
+    ensures { OnOk result ((line : List ℕ) × IsGoingOnLine second seconds server next line × (string_bytes out.new ≡ string_bytes out.old ++ line)) }
+{
+    write_time(second, out)?;
+    out.push_str(" no reply from ")?;
+    write_address(server, out)?;
+    write_span(seconds, out)?;
+    write_address(next, out)?;
+    end_line(out)
+}
+
+/// Appends for how long a server was silent.
+fn write_span(seconds: u32, out: &mut String) -> Result<(), AllocError>
+    ensures { OnOk result (string_bytes out.new ≡ string_bytes out.old ++ span_text seconds) }
+{
+    write!(out, " for {seconds} s: goes on with ")
 }
 
 /// Appends what is printed of each name.

@@ -84,10 +84,27 @@ fn wake<K: Watch, const N: usize>(
 {
     let look = watch.look();
     if look.slept {
-        *node = Node::start_from(node.addr(), server, config, look.at, look.first_id());
-        forget_all(goals);
+        start_again(node, goals, server, config, &look);
     }
     look
+}
+
+/// The host is as that of a machine that crashed and started at a look, and asks this server: the node knows nothing, and of each goal
+/// what is wanted and its stage alone stay.
+pub fn start_again<const N: usize>(
+    node: &mut Node<N>,
+    goals: &mut [Goal],
+    server: Addr,
+    config: Config,
+    look: &Look,
+)
+    requires slots_at_least { 1 ≤ N }
+    requires slots_at_most { N ≤ slots_most }
+    ensures node { node.new ≡ started_from N node.old.addr server config look.now.at (first_id look.now) }
+    ensures goals { goals.new ≡ map anew goals.old }
+{
+    *node = Node::start_from(node.addr(), server, config, look.at, look.first_id());
+    forget_all(goals);
 }
 
 /// Receives once, looks at the clocks, and takes what came, where the machine didn't sleep.

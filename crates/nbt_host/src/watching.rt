@@ -17,18 +17,21 @@ pub struct Look {
     pub day: Moment,
     /// Whether the machine slept since an earlier look.
     pub slept: bool,
+    /// A number that nobody else can guess, the same at each look.
+    pub salt: u16,
 }
 
 /// How many ids there are.
 const IDS: u64 = 0x1_0000;
 
 impl Look {
-    /// The id of the first request of a life that begins at this look, which differs from start to start: the last 16 bits of both
-    /// clocks together (our profile).
+    /// The id of the first request of a life that begins at this look, which nobody can guess, and which differs from life to life: the
+    /// last 16 bits of the salt and both clocks together (our profile).
     pub fn first_id(&self) -> u16
         ensures { result ≡ first_id self.now }
     {
-        ((self.at.get() + self.day.get()) % IDS) as u16
+        let salt = self.salt;
+        ((self.at.get() + self.day.get() + u64::from(salt)) % IDS) as u16
     }
 
     /// This look, as the last one of a turn that began with another.
@@ -62,16 +65,19 @@ pub struct WatchedClocks<C, D> {
     pub clocks: Clocks<C, D>,
     /// That reading.
     pub anchor: Option<Reading>,
+    /// A number that nobody else can guess.
+    pub salt: u16,
 }
 
 impl<C, D> WatchedClocks<C, D> {
-    /// Clocks that were not looked at yet.
-    pub fn new(clocks: Clocks<C, D>) -> WatchedClocks<C, D>
-        ensures { result ≡ unwatched clocks.steady clocks.day }
+    /// Clocks that were not looked at yet, with this salt.
+    pub fn new(clocks: Clocks<C, D>, salt: u16) -> WatchedClocks<C, D>
+        ensures { result ≡ unwatched clocks.steady clocks.day salt }
     {
         WatchedClocks {
             clocks,
             anchor: None,
+            salt,
         }
     }
 }
@@ -103,6 +109,7 @@ impl<C: Clock, D: Clock> Watch for WatchedClocks<C, D> {
             at: reading.after,
             day: reading.day,
             slept,
+            salt: self.salt,
         }
     }
 }

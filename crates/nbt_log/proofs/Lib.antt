@@ -6,3 +6,5 @@ mod Remembering
 mod Summing
 -- a name filled up with spaces, and the one host whose it is
 mod Filling
+-- how live names that read alike are spelled, row after row
+mod Alike

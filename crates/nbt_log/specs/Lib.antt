@@ -6,6 +6,7 @@ pub mod Lines
 pub mod Summary
 pub mod Gauges
 pub mod Hosts
+pub mod Inner
 pub mod Metrics
 pub mod Stats
 pub mod Tallies

@@ -93,7 +93,8 @@ port_text failures lines_dropped = metric_text (codes "port_failures_total") cou
     ++ metric_text (codes "log_lines_dropped_total") counter (codes "Lines of the log that were dropped, since its reader was slow or it could not be written.") (([], lines_dropped) ∷ [])
 
 abbrev pub state_text : Health → List ℕ
-state_text health = metric_text (codes "state_syncs_total") counter (codes "How often the state was made durable.") (([], health.syncs) ∷ [])
+state_text health = metric_text (codes "barred_requests_total") counter (codes "Requests that were dropped, since their client had its changes of that second.") (([], health.barred) ∷ [])
+    ++ metric_text (codes "state_syncs_total") counter (codes "How often the state was made durable.") (([], health.syncs) ∷ [])
     ++ seconds_metric (codes "state_sync_seconds_total") counter (codes "How long it took to make the state durable, taken together.") health.sync_milliseconds
 
 abbrev pub devices_text : Health → (lines_dropped : ℕ) → List ℕ

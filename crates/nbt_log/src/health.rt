@@ -9,6 +9,8 @@ pub struct Health {
     pub failures: u64,
     /// What its port replied by itself.
     pub own: OwnReplies,
+    /// How many requests were barred, since their clients had their shares of changes.
+    pub barred: u64,
     /// How often it made its changes durable.
     pub syncs: u64,
     /// How long that took, taken together, in milliseconds.

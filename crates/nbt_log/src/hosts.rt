@@ -5,54 +5,81 @@ ghost use Rattle.std.specs.String.{string_bytes};
 ghost use Rattle.nbt_text.specs.SuffixedNames.{IsCutAt};
 ghost use Rattle.nbt_text.specs.Texts.{PrintsEach};
 ghost use Rattle.nbt_log.specs.Hosts.{HasHost, IsHost, IsSpace, PrintsHost, IsHosts, server_octets};
+ghost use Rattle.nbt_log.specs.Inner.Casing.{IsClearIn};
 
+use crate::casing::{Cases, FixedCapitals, may_tell};
 use nbt_lease::{Lease, Moment};
 use nbt_name::{Kind, Name};
 use nbt_text::{is_host_name, write_host};
-use std::alloc::AllocError;
+use std::alloc::{AllocError, Global};
 
 /// The first line of the hosts, with its end, which says what a file is (our profile). A resolver passes it over.
 pub const HOSTS_HEAD: &str = "# hosts of nbt nbns\n";
 
 /// Appends the hosts of these rows at `now`, in their order: the line [`HOSTS_HEAD`], and then a line as in /etc/hosts for each
-/// live lease of a unique name of suffix 20, a file server's, without a scope, as `192.0.2.7 FILER`. A name that is no host name is
-/// left out: 1 to 15 letters, digits and hyphens, the first and the last of them no hyphen (RFC 952, RFC 1123 section 2.1), filled
-/// up with spaces.
-pub fn write_hosts(now: Moment, rows: &[(Name, Lease)], out: &mut String) -> Result<(), AllocError>
-    ensures { OnOk result ((text : List ℕ) × IsHosts now rows.now text × (string_bytes out.new ≡ string_bytes out.old ++ text)) }
+/// live lease of a unique name of suffix 20, a file server's, without a scope, as `192.0.2.7 FILER`. Left out is a name that is no host
+/// name: 1 to 15 letters, digits and hyphens, the first and the last of them no hyphen (RFC 952, RFC 1123 section 2.1), filled up with
+/// spaces. So is one that a resolver, to which small letters and capitals are one, would take for another: a name that reads like one
+/// that is fixed, and a name with a small letter that reads like a live lease of other octets.
+pub fn write_hosts(
+    alloc: Global,
+    now: Moment,
+    rows: &[(Name, Lease)],
+    fixed: &FixedCapitals,
+    out: &mut String,
+) -> Result<(), AllocError>
+    ensures { OnOk result ((text : List ℕ) × IsHosts now rows.now fixed.now text × (string_bytes out.new ≡ string_bytes out.old ++ text)) }
 {
+    let cases = Cases::of(alloc, now, rows)?;
     out.push_str(HOSTS_HEAD)?;
-    write_rows(now, rows, out)
+    write_rows(now, rows, fixed, &cases, out)
 }
 
 /// Appends the lines of the rows, in their order.
-fn write_rows(now: Moment, rows: &[(Name, Lease)], out: &mut String) -> Result<(), AllocError>
-    ensures { OnOk result ((text : List ℕ) × PrintsEach (PrintsHost now) rows.now text × (string_bytes out.new ≡ string_bytes out.old ++ text)) }
+fn write_rows(
+    now: Moment,
+    rows: &[(Name, Lease)],
+    fixed: &FixedCapitals,
+    cases: &Cases,
+    out: &mut String,
+) -> Result<(), AllocError>
+    ensures { OnOk result ((text : List ℕ) × PrintsEach (PrintsHost (IsClearIn fixed.now cases.now) now) rows.now text × (string_bytes out.new ≡ string_bytes out.old ++ text)) }
 {
     let mut rest = rows;
     'rows: while let Some((row, others)) = rest.split_first() {
-        write_row(now, row, out)?;
+        write_row(now, row, fixed, cases, out)?;
         rest = others;
     }
     Ok(())
 }
 
 /// Appends the line of a row, if it has one.
-fn write_row(now: Moment, row: &(Name, Lease), out: &mut String) -> Result<(), AllocError>
-    ensures { OnOk result ((text : List ℕ) × PrintsHost now row.now text × (string_bytes out.new ≡ string_bytes out.old ++ text)) }
+fn write_row(
+    now: Moment,
+    row: &(Name, Lease),
+    fixed: &FixedCapitals,
+    cases: &Cases,
+    out: &mut String,
+) -> Result<(), AllocError>
+    ensures { OnOk result ((text : List ℕ) × PrintsHost (IsClearIn fixed.now cases.now) now row.now text × (string_bytes out.new ≡ string_bytes out.old ++ text)) }
 {
-    match host_in(now, row) {
+    match host_in(now, row, fixed, cases) {
         Some(host) => write_host(row.1.addr, host, out),
         None => Ok(()),
     }
 }
 
-/// The host of a row, if its lease lives and is a host's.
-fn host_in(now: Moment, row: &(Name, Lease)) -> Option<&[u8]>
-    ensures host { IfSome result (λ host. HasHost now row.now host.now) }
-    ensures none { IsNone result → (host : List ℕ) → ¬ HasHost now row.now host }
+/// The host of a row, if its lease lives and is a host's of which a resolver may be told.
+fn host_in<'a>(
+    now: Moment,
+    row: &'a (Name, Lease),
+    fixed: &FixedCapitals,
+    cases: &Cases,
+) -> Option<&'a [u8]>
+    ensures host { IfSome result (λ host. HasHost (IsClearIn fixed.now cases.now) now row.now host.now) }
+    ensures none { IsNone result → (host : List ℕ) → ¬ HasHost (IsClearIn fixed.now cases.now) now row.now host }
 {
-    if now.get() >= row.1.end {
+    if now.get() >= row.1.end || !may_tell(fixed, cases, row.0.octets()) {
         return None;
     }
     match row.1.kind {

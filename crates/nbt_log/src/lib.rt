@@ -10,6 +10,7 @@
 //! ```
 #![tactic(auto)]
 
+mod casing;
 mod dates;
 mod entry;
 mod gauges;
@@ -26,6 +27,7 @@ mod summary;
 mod tally;
 mod time;
 
+pub use casing::FixedCapitals;
 pub use dates::Dates;
 pub use entry::{Entry, LineKind};
 pub use gauges::{Gauges, measure};

@@ -250,6 +250,13 @@ fn write_state(health: &Health, out: &mut String) -> Result<(), AllocError>
     ensures { OnOk result (string_bytes out.new ≡ string_bytes out.old ++ state_text health.now) }
 {
     write_metric(
+        "barred_requests_total",
+        COUNTER,
+        "Requests that were dropped, since their client had its changes of that second.",
+        &[("", health.barred)],
+        out,
+    )?;
+    write_metric(
         "state_syncs_total",
         COUNTER,
         "How often the state was made durable.",

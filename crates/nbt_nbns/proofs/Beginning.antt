@@ -11,6 +11,7 @@ use Rattle.nbt_port.specs.declared.fault.Fault.TheVariants.{Memory, Output}
 use Rattle.nbt_front.specs.FrontPort.{Fronted}
 use Rattle.nbt_front.specs.Standing.{in_the_way}
 use Rattle.nbt_serve.specs.Runs.{live_rows}
+use Rattle.nbt_serve.specs.Sharing.{ShareValue, share_of}
 use Rattle.nbt_serve.specs.Waiting.{WaitingValue, none_waits}
 use Rattle.nbt_store.specs.declared.beginning.Begun.{Begun}
 use Rattle.nbt_nbns.specs.Inner.Resuming.{kept_of}
@@ -32,11 +33,11 @@ pub is_at_first : (a : NbnsArguments) (start clock time day no_day : ℕ) (first
 is_at_first a start clock time day no_day first server journal text c d n s j = cc
 
 -- and what one is that begins with a state
-pub is_kept_at_first : (a : NbnsArguments) (begun : Begun) (monotonic time : ℕ) (store : Bool) (clock day : ℕ) (waiting : WaitingValue) (teller : List Untold) (journal : Journal ℕ FileValue) (kept : Started Bool (Ahead ℕ) ℕ (Journal ℕ FileValue)) (standing : Rows) (text : Option (List ℕ))
-    → store ≡ false → clock ≡ monotonic → day ≡ time → waiting ≡ none_waits begun.header.last → teller ≡ [] → journal ≡ new_journal a (dates_of begun time) 0 begun.start
-    → kept ≡ kept_of begun store clock day waiting teller journal a.rows_per_client → standing ≡ in_the_way a.front.fixed (live_rows begun.server)
+pub is_kept_at_first : (a : NbnsArguments) (begun : Begun) (monotonic time : ℕ) (store : Bool) (clock day : ℕ) (share : ShareValue) (waiting : WaitingValue) (teller : List Untold) (journal : Journal ℕ FileValue) (kept : Started Bool (Ahead ℕ) ℕ (Journal ℕ FileValue)) (standing : Rows) (text : Option (List ℕ))
+    → store ≡ false → clock ≡ monotonic → day ≡ time → share ≡ share_of a.changes_per_client → waiting ≡ none_waits begun.header.last → teller ≡ [] → journal ≡ new_journal a (dates_of begun time) 0 begun.start
+    → kept ≡ kept_of begun store clock day share waiting teller journal a.rows_per_client → standing ≡ in_the_way a.front.fixed (live_rows begun.server)
     → staying_of (port_at_first a standing) kept text ≡ kept_at_first a begun monotonic time text
-is_kept_at_first a begun monotonic time store clock day waiting teller journal kept standing text s c d w t j k o = cc
+is_kept_at_first a begun monotonic time store clock day share waiting teller journal kept standing text s c d h w t j k o = cc
 
 -- both clocks stay at what they told
 pub are_read : (steady : ℕ) (told : Told) (day : ℕ) → AreRead steady told day → AreRead told.monotonic told told.time

@@ -2,6 +2,8 @@
 
 -- a server begins, over this machine
 mod Beginning
+-- what is said of one that would begin
+mod Checks
 -- what became of a look at the leases
 mod Looking
 -- what waits behind what was written of a log

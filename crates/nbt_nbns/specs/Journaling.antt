@@ -3,6 +3,7 @@ use Rattle.std.specs.Prelude.{◌≡◌, ℕ, ◌-◌, List, Option, Some, None}
 use Rattle.nbt_server.specs.Serving.{ServerValue}
 use Rattle.nbt_log.specs.Dates.{followed}
 use Rattle.nbt_log.specs.declared.dates.Dates.{Dates}
+use Rattle.nbt_log.specs.Hosts.{IsHosts}
 use Rattle.nbt_log.specs.Tallies.{counted}
 use Rattle.nbt_nbns.specs.Keeping.{KeeperValue, Keeps}
 use Rattle.nbt_nbns.specs.Logging.{LoggerValue, Prints}
@@ -40,5 +41,6 @@ pub record Journals {D L : Type 0} (tells : D → ℕ → D → Type 0) (puts : 
   pub tally_is : new.tally ≡ counted shown.entry (dropped_of new.log - dropped_of old.log) old.tally
   pub origin_is : new.origin ≡ old.origin
   pub leases_kept : KeepsIn puts (Lists listing.Leases server new.dates shown.at) shown.at old.leases new.leases
-  pub hosts_kept : KeepsIn puts (Lists listing.Hosts server new.dates shown.at) shown.at old.hosts new.hosts
+  pub fixed_are : new.fixed ≡ old.fixed
+  pub hosts_kept : KeepsIn puts (IsHosts shown.at server.table.rows new.fixed) shown.at old.hosts new.hosts
   pub stats_kept : KeepsIn puts (SaysStats (record { tally = new.tally; health = shown.health; origin = new.origin }) server new.dates shown.at) shown.at old.stats new.stats

@@ -1,4 +1,5 @@
 pub mod Begin
+pub mod Checking
 pub mod Contents
 pub mod Inner
 pub mod Journaling

@@ -12,10 +12,10 @@ use Rattle.nbt_nbns.specs.declared.report.Listing.{Listing}
 use Rattle.nbt_nbns.specs.declared.report.Listing.TheVariants.{Leases, Hosts}
 use Rattle.nbt_nbns.specs.declared.report.StatsReport.{StatsReport}
 
--- the live leases, or the hosts
+-- the live leases, or the hosts beside names that are fixed
 abbrev pub Lists : Listing → ServerValue → Dates → (now : ℕ) → List ℕ → Type 0
 Lists Leases server dates now text = IsList dates now server.table.rows text
-Lists Hosts server dates now text = IsHosts now server.table.rows text
+Lists (Hosts fixed) server dates now text = IsHosts now server.table.rows fixed.now text
 
 -- what the statistics say of a server at a moment
 abbrev pub figures_of : StatsReport → ServerValue → Dates → (now : ℕ) → Figures

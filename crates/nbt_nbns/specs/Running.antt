@@ -18,6 +18,7 @@ use Rattle.nbt_port.specs.declared.fault.Fault.TheVariants.{Device}
 use Rattle.nbt_log.specs.Dates.{second_at}
 use Rattle.nbt_log.specs.declared.dates.Dates.{Dates}
 use Rattle.nbt_front.specs.Deciding.{desk_of}
+use Rattle.nbt_front.specs.FixedNames.{capitals_of}
 use Rattle.nbt_front.specs.FrontPort.{Fronted, FrontDoes}
 use Rattle.nbt_log.specs.Tallies.{no_tally}
 use Rattle.nbt_log.specs.declared.origin.Origin.{Origin}
@@ -70,6 +71,7 @@ new_journal a dates day start = record {
   log = log_of a.log a.broadcasts;
   leases = keeper_of content.Leases a.leases;
   hosts = keeper_of content.Hosts a.hosts;
+  fixed = capitals_of a.front.fixed;
   stats = keeper_of content.Stats a.stats;
   tally = no_tally;
   origin = origin_of dates start a.config.longest;

@@ -13,17 +13,20 @@ use Rattle.nbt_nbns.specs.declared.arguments.NbnsArguments.{NbnsArguments}
 use Rattle.nbt_nbns.specs.Begin.{manner_of}
 use Rattle.nbt_nbns.specs.Opening.{IsFoundHere}
 use Rattle.nbt_serve.specs.Runs.{live_rows}
+use Rattle.nbt_serve.specs.Sharing.{share_of}
 use Rattle.nbt_serve.specs.Waiting.{none_waits}
 use Rattle.nbt_nbns.specs.declared.opening.Told.{Told}
 use Rattle.nbt_nbns.specs.declared.arguments.ServerArguments.{ServerArguments}
 use Rattle.nbt_nbns.specs.declared.arguments.StateFolder.{StateFolder}
+use Rattle.nbt_nbns.specs.declared.server.Folder.{Folder}
+use Rattle.nbt_nbns.specs.declared.server.Folder.TheVariants.{Own, Held}
 use Rattle.nbt_store.specs.declared.beginning.Begun.{Begun}
 
 -- the moment and the time of day at which a server begins
 abbrev pub dates_of : Begun → (time : ℕ) → Dates
 dates_of begun time = record { moment = begun.reads; time = time }
 
--- What a server is at first that begins so, at this time of the monotonic clock and this time of day: it limits its clients, and those of its leases stand in
+-- What a server is at first that begins so, at this time of the monotonic clock and this time of day: it limits its clients, none of which made a change yet, and those of its leases stand in
 -- the way of fixed names that are another machine's.
 abbrev pub kept_at_first : NbnsArguments → Begun → (monotonic time : ℕ) → Option (List ℕ) → Nbns (Ahead ℕ)
 kept_at_first a begun monotonic time text = record {
@@ -31,7 +34,7 @@ kept_at_first a begun monotonic time text = record {
     port = port_at_first a (in_the_way a.front.fixed (live_rows begun.server));
     clock = record { clock = monotonic; by = begun.header.ahead };
     server = limited (Some a.rows_per_client) begun.server;
-    state = Some (record { store = false; header = begun.header; waiting = none_waits begun.header.last; teller = [] });
+    state = Some (record { store = false; header = begun.header; share = share_of a.changes_per_client; waiting = none_waits begun.header.last; teller = [] });
   };
   day = time;
   watcher = new_journal a (dates_of begun time) 0 begun.start;
@@ -58,10 +61,20 @@ RunsKept a state old_text text = Begins (StartsKept a state) (λ first. KeepsUnt
 abbrev pub KeptFails : NbnsArguments → StateFolder → Fault → (old_text text : Option (List ℕ)) → Type 0
 KeptFails a state why old_text text = Begins (StartsKept a state) (λ first. KeepsNot (TellsAhead (SteadyTells SystemShows)) a.strict (until_of first.served.server.last a.time) why first) old_text text
 
--- With a state it keeps its leases, and without one it is a server as it is.
-abbrev pub RunsWith : NbnsArguments → Option StateFolder → (old_text text : Option (List ℕ)) → Type 0
-RunsWith a None old_text text = RunsNbns a old_text text
-RunsWith a (Some state) old_text text = RunsKept a state old_text text
+-- the exit status of a server that ended so
+abbrev pub folder_status : Folder → ℕ
+folder_status Own = 0
+folder_status Held = 6
 
-abbrev pub RunsServer : ServerArguments → (old_text text : Option (List ℕ)) → Type 0
-RunsServer a old_text text = RunsWith a.nbns a.state old_text text
+-- A server with a state serves, or it prints nothing, since another one has the lock. That this is so no contract can say.
+abbrev pub EndsKept : NbnsArguments → StateFolder → Folder → (old_text text : Option (List ℕ)) → Type 0
+EndsKept a state Own old_text text = RunsKept a state old_text text
+EndsKept a state Held old_text text = text ≡ old_text
+
+-- With a state it keeps its leases, and without one it is a server as it is, which needs no lock.
+abbrev pub EndsWith : NbnsArguments → Option StateFolder → Folder → (old_text text : Option (List ℕ)) → Type 0
+EndsWith a None folder old_text text = (folder ≡ Own) × RunsNbns a old_text text
+EndsWith a (Some state) folder old_text text = EndsKept a state folder old_text text
+
+abbrev pub EndsServer : ServerArguments → Folder → (old_text text : Option (List ℕ)) → Type 0
+EndsServer a folder old_text text = EndsWith a.nbns a.state folder old_text text

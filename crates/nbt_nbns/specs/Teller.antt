@@ -6,23 +6,24 @@ use Rattle.nbt_server.specs.Serving.{ServerValue}
 use Rattle.nbt_server.specs.Outcomes.{has_reply}
 use Rattle.nbt_nbns.specs.declared.staying.Shown.{Shown}
 use Rattle.nbt_serve.specs.Waiting.{ReplyValue, WaitingValue, batch}
+use Rattle.nbt_serve.specs.declared.waiting.Sent.{Sent}
 use Rattle.nbt_nbns.specs.declared.teller.Untold.{Untold}
 
 -- A turn goes last, if the server took a datagram in it. There is room for as many as replies may wait: past that, which is so only after
 -- failures of the port, those before it are left out.
-abbrev pub queued : List Untold → (read : ℕ) → Option Entry → List Untold
-queued untold read None = untold
-queued untold read (Some entry) = (if nat_lt (length untold) batch then untold else []) ++ record { read = read; entry = entry } ∷ []
+abbrev pub queued : List Untold → (read : ℕ) → (ahead : Bool) → Option Entry → List Untold
+queued untold read ahead None = untold
+queued untold read ahead (Some entry) = (if nat_lt (length untold) batch then untold else []) ++ record { read = read; ahead = ahead; entry = entry } ∷ []
 
 -- Whether a reply left that was read then, where what waited left at this moment, if it did: else it left at once, or was lost.
 abbrev pub has_left : (life : ℕ) → (left : Option ℕ) → (read : ℕ) → Bool
 has_left life None read = true
 has_left life (Some now) read = nat_le now (read + life)
 
--- Whether a turn is shown once no reply waits: it had no reply, or one that has left. One that would have left later than a datagram's life
+-- Whether a turn is shown once no reply waits: it had no reply, or one that went ahead, or has left. One that would have left later than a datagram's life
 -- after its request was read was dropped, and its turn is left out.
 abbrev pub is_shown : (life : ℕ) → (left : Option ℕ) → Untold → Bool
-is_shown life left untold = not (has_reply untold.entry.outcome) || has_left life left untold.read
+is_shown life left untold = not (has_reply untold.entry.outcome) || (untold.ahead || has_left life left untold.read)
 
 -- each of these turns, and where there is none, that there is none
 abbrev pub each_or_none : List Untold → List (Option Entry)
@@ -53,7 +54,7 @@ SeesOne sees server old shown new = sees old.watcher server shown old.text new.w
 
 -- After a turn the watcher is shown, one after the other, the turns whose replies have left by now, each with the moment and the health
 -- after this turn. The others aren't shown yet.
-pub record Tells {V : Type 0} (sees : Sight V) (server : ServerValue) (waiting : WaitingValue) (left : Option ℕ) (shown : Shown) (old : List Untold) (before : Seeing V) (new : List Untold) (after : Seeing V) : Type 0 where
-  pub untold_is : new ≡ still_untold waiting.replies (queued old server.last shown.entry)
+pub record Tells {V : Type 0} (sees : Sight V) (server : ServerValue) (waiting : WaitingValue) (sent : Sent) (shown : Shown) (old : List Untold) (before : Seeing V) (new : List Untold) (after : Seeing V) : Type 0 where
+  pub untold_is : new ≡ still_untold waiting.replies (queued old server.last sent.ahead shown.entry)
   pub seen : Chain (SeesOne sees server) before
-      (map (λ entry. record shown { entry = entry }) (entries_shown server.table.config.life left waiting.replies (queued old server.last shown.entry))) after
+      (map (λ entry. record shown { entry = entry }) (entries_shown server.table.config.life sent.left waiting.replies (queued old server.last sent.ahead shown.entry))) after

@@ -27,6 +27,8 @@ pub struct NbnsArguments {
     pub strict: bool,
     /// How many live leases a client may have.
     pub rows_per_client: u32,
+    /// How many changes a client may make in a second where there is a state; 0 for any number.
+    pub changes_per_client: u32,
     /// Who may register, and the names that are fixed.
     pub front: Front,
 }

@@ -73,7 +73,7 @@ pub fn write_begin(at: &[Addr], manner: Manner, out: &mut String) -> Result<(), 
 }
 
 /// Appends how it begins.
-fn write_manner(manner: Manner, out: &mut String) -> Result<(), AllocError>
+pub(crate) fn write_manner(manner: Manner, out: &mut String) -> Result<(), AllocError>
     ensures { OnOk result ((text : List ℕ) × IsManner manner text × (string_bytes out.new ≡ string_bytes out.old ++ text)) }
 {
     match manner {

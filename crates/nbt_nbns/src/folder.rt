@@ -13,6 +13,7 @@ use std::{io, time};
 /// A store in a folder of the system. What its files keep no contract can say: one sees whether the store is broken.
 #[derive(Drop)]
 pub struct FolderStore<'a, M: Files> {
+    folder: &'a str,
     store: DiskStore<SystemDisk<'a, M>>,
 }
 
@@ -35,8 +36,9 @@ impl<'a, M: Files + time::Clock> FolderStore<'a, M> {
     ) -> io::Result<FolderStore<'a, M>>
         ensures { IfOk result (λ folder. folder ≡ false) }
     {
+        let folder = disk.folder();
         let store = DiskStore::open(disk, alloc, header, rows)?;
-        Ok(FolderStore { store })
+        Ok(FolderStore { folder, store })
     }
 }
 
@@ -63,6 +65,10 @@ impl<M: Files + time::Clock> Store for FolderStore<'_, M> {
 
     fn error(&self) -> Option<&io::Error> {
         self.store.error()
+    }
+
+    fn folder(&self) -> Option<&str> {
+        Some(self.folder)
     }
 
     fn syncs(&self) -> Syncs {

@@ -10,7 +10,7 @@ use crate::place::Place;
 use crate::report::{Listing, Report, StatsReport};
 use crate::staying::{Shown, Watcher};
 use nbt_lease::Moment;
-use nbt_log::{Dates, Origin, Tally};
+use nbt_log::{Dates, FixedCapitals, Origin, Tally};
 use nbt_port::Clock;
 use nbt_server::Server;
 use std::io::Write;
@@ -29,6 +29,8 @@ pub struct Journal<D, L> {
     pub leases: Option<Keeper<L>>,
     /// The hosts, if they are kept.
     pub hosts: Option<Keeper<L>>,
+    /// The names that are fixed: no host is told that reads like one of them.
+    pub fixed: FixedCapitals,
     /// The statistics, if they are kept.
     pub stats: Option<Keeper<L>>,
     /// What the server has done.
@@ -64,7 +66,7 @@ impl<D: Clock, L: Place> Watcher for Journal<D, L> {
             shown.at,
             errors,
         );
-        let hosts = Listing::Hosts;
+        let hosts = Listing::Hosts(&self.fixed);
         keep_in(
             &mut self.hosts,
             &hosts,

@@ -7,13 +7,14 @@ ghost use Rattle.nbt_nbns.specs.Inner.Ending.{EndsSo, ComesTo};
 ghost use Rattle.nbt_nbns.specs.Staying.{Breaks, BreaksStaying, CutsStaying, HasRoom, Turns, WatchesLast, WatchesOn};
 ghost use Rattle.nbt_serve.specs.declared.fault.KeepFault.TheVariants as fault;
 
+use crate::barring::BarredNotes;
 use crate::state::{State, health_of, is_idle, look_after_state, show, take_turn, tell_store};
 use crate::staying::{Shown, Watcher};
 use arrayvec::ArrayVec;
 use nbt_lease::{Lease, Moment};
 use nbt_name::Name;
 use nbt_port::{Clock, FOREVER, Fault, Port, Turn, Turned, is_over, stay_up};
-use nbt_serve::KeepFault;
+use nbt_serve::{KeepFault, Sent};
 use nbt_server::Server;
 use nbt_store::Store;
 use std::alloc::Global;
@@ -21,7 +22,8 @@ use std::io::Write;
 use std::time;
 
 /// The server goes through turns until the moment `until`, if there is one, and through 2^61 of them at most. It stays up when the port
-/// fails, as [`stay_up`] says. What changed at the port is said in `errors` after each turn. After one that went well the clock is read.
+/// fails, as [`stay_up`] says. What changed at the port is said in `errors` after each turn. After one that went well the clock is read,
+/// and at most once a second a line in `errors` says how many requests were barred.
 ///
 /// Without a state a turn is one of [`nbt_serve::serve_turn`], and the watcher is shown each. With one it is one of
 /// [`nbt_serve::keep_turn`], and the server ends only once no reply waits. Where none waits after a turn, the watcher is shown what the
@@ -79,6 +81,7 @@ pub fn keep_on<
         octets: ArrayVec::new(),
         reply: ArrayVec::new(),
         shown,
+        barred: BarredNotes::new(),
     };
     stay_up(&mut turn, FOREVER, machine, errors)
 }
@@ -98,6 +101,7 @@ struct WatchedTurn<'p, 'c, 's, 'k, 'd, 'v, 'w, 'b, P, S, C, D, V, W> {
     octets: ArrayVec<u8, 2048>,
     reply: ArrayVec<u8, 576>,
     shown: Shown,
+    barred: BarredNotes,
     ghost room: { HasRoom kept.now },
 }
 
@@ -126,7 +130,7 @@ impl<P: Port, S: Store, C: Clock, D: Clock, V: Watcher, W: Write> Turn
     ghost cuts = { λ _. CutsStaying P.does P.failures S.does C.tells D.tells V.sees };
 
     fn take<E: Write>(&mut self, errors: &mut E) -> Turned {
-        let left = match turn_and_moment(
+        let sent = match turn_and_moment(
             self.port,
             self.clock,
             self.server,
@@ -135,7 +139,7 @@ impl<P: Port, S: Store, C: Clock, D: Clock, V: Watcher, W: Write> Turn
             &mut self.reply,
             &mut self.shown,
         ) {
-            Ok(left) => left,
+            Ok(sent) => sent,
             Err(KeepFault::Port) => {
                 self.port.tell_changes(errors);
                 return Turned::Failed(self.port.cause());
@@ -147,10 +151,11 @@ impl<P: Port, S: Store, C: Clock, D: Clock, V: Watcher, W: Write> Turn
         };
         self.port.tell_changes(errors);
         let at = self.shown.at;
+        self.barred.tell(self.kept, at, errors);
         show(
             self.kept,
             self.server,
-            left,
+            sent,
             &mut self.shown,
             self.watcher,
             self.writer,
@@ -204,7 +209,7 @@ fn ending<S>(until: &Option<Moment>, at: Moment, state: &Option<State<S>>) -> Tu
     }
 }
 
-/// One turn, and the moment after it: `shown` is what it was, where it went well. Returns at which moment what waited left, if it did.
+/// One turn, and the moment after it: `shown` is what it was, where it went well. Returns what left in it.
 fn turn_and_moment<P: Port, C: Clock, S: Store>(
     port: &mut P,
     clock: &mut C,
@@ -213,17 +218,17 @@ fn turn_and_moment<P: Port, C: Clock, S: Store>(
     octets: &mut ArrayVec<u8, 2048>,
     reply: &mut ArrayVec<u8, 576>,
     shown: &mut Shown,
-) -> Result<Option<Moment>, KeepFault>
+) -> Result<Sent, KeepFault>
     requires room { HasRoom state.old }
-    ensures ok { IfOk result (λ left. (turned : C) × Turns P.does S.does C.tells (record { port = port.old; clock = clock.old; server = server.old; state = state.old }) shown.new.entry left
+    ensures ok { IfOk result (λ sent. (turned : C) × Turns P.does S.does C.tells (record { port = port.old; clock = clock.old; server = server.old; state = state.old }) shown.new.entry sent
         (record { port = port.new; clock = turned; server = server.new; state = state.new })
         × C.tells turned shown.new.at clock.new × (shown.new.health.failures ≡ P.failures port.new)) }
     ensures err { IfErr result (λ why. Breaks P.does S.does C.tells why (record { port = port.old; clock = clock.old; server = server.old; state = state.old })
         (record { port = port.new; clock = clock.new; server = server.new; state = state.new })) }
     ensures room { HasRoom state.new }
 {
-    let left = take_turn(port, clock, server, state, octets, reply, &mut shown.entry)?;
+    let sent = take_turn(port, clock, server, state, octets, reply, &mut shown.entry)?;
     shown.at = clock.now();
     shown.health = health_of(port, state);
-    Ok(left)
+    Ok(sent)
 }

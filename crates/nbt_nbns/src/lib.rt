@@ -3,6 +3,8 @@
 #![tactic(auto)]
 
 mod arguments;
+mod barring;
+mod checking;
 mod complaint;
 mod content;
 mod first_line;
@@ -26,8 +28,10 @@ mod starting;
 mod state;
 mod staying;
 mod teller;
+mod unlocked;
 
 pub use arguments::{NbnsArguments, ServerArguments, StateFolder};
+pub use checking::{check_server, write_check};
 pub use content::Content;
 pub use first_line::{
     Manner, manner_at_first, manner_of, write_addresses, write_begin, write_reason,
@@ -44,7 +48,7 @@ pub use outbox::Outbox;
 pub use place::{FilePlace, MemoryPlace, Place};
 pub use report::{Listing, Report, StatsReport};
 pub use running::run_nbns;
-pub use server::run_server;
+pub use server::{Folder, run_server};
 pub use starting::journal_of;
 pub use state::State;
 pub use staying::{Shown, Watcher};

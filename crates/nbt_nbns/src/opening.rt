@@ -8,18 +8,23 @@ ghost use Rattle.nbt_serve.specs.Runs.{live_rows};
 use crate::arguments::StateFolder;
 use crate::folder::FolderStore;
 use nbt_lease::{Config, Lease, Moment};
+use nbt_log::write_time;
 use nbt_name::{Addr, Name};
 use nbt_port::{Clock, Fault, MachineClock, SteadyClock, readable_clock, steady_clock};
 use nbt_serve::list_live;
 use nbt_store::{
-    Begun, Boot, Fault as FileFault, Found, Reason, Seen, SystemDisk, begin, outlasts, this_boot,
+    Begun, Boot, Fault as FileFault, Found, Reason, Seen, SystemDisk, begin, load_header, outlasts,
+    outlasts_for, this_boot,
 };
-use std::alloc::Global;
+use std::alloc::{AllocError, Global};
 use std::fs::File;
 use std::io::{ErrorKind, Write};
 use std::net::Net;
 use std::rt::Files;
 use std::{io, time};
+
+/// The milliseconds of a second.
+const SECOND: u64 = 1_000;
 
 /// A store that was opened, and the leases that it has.
 #[derive(Drop)]
@@ -75,20 +80,21 @@ pub(crate) struct Clocks<'a, M: time::Clock> {
 }
 
 impl<'a, M: Files<File = File>> Locked<'a, M> {
-    /// Locks a folder, which has to be there. Refused with `Memory` or `Store`: a line in `errors` says why.
+    /// Locks a folder, which has to be there; `None` where another server has locked it, and a line in `errors` says so. Refused with `Memory`
+    /// or `Store`: a line in `errors` says why.
     pub fn lock<E: Write>(
         machine: &'a M,
         alloc: Global,
         folder: &'a str,
         errors: &mut E,
-    ) -> Result<Locked<'a, M>, Fault>
+    ) -> Result<Option<Locked<'a, M>>, Fault>
         ensures { IfErr result IsStoreFault }
     {
         match SystemDisk::open_folder(machine, alloc, folder) {
-            Ok(disk) => Ok(Locked { disk, folder }),
+            Ok(disk) => Ok(Some(Locked { disk, folder })),
             Err(error) if error.kind() == ErrorKind::WouldBlock => {
                 let _ = tell_used(folder, errors);
-                Err(Fault::Store)
+                Ok(None)
             }
             Err(error) => Err(refused("the folder can't be used", folder, error, errors)),
         }
@@ -110,28 +116,13 @@ impl<'a, M: Files<File = File>> Locked<'a, M> {
         ensures err { IfErr result IsStoreFault }
     {
         let boot = boot_here(machine, alloc, self.folder, errors)?;
-        let kept = match self.disk.read(alloc) {
-            Ok(kept) => kept,
-            Err(error) => {
-                return Err(refused("the leases can't be read", self.folder, error, errors));
-            }
-        };
-        let found = Found {
-            kept: kept.as_ref().map(|octets| octets.as_slice()),
-            config,
-            seen: told.seen_in(&boot),
-            silent_after_boot: state.silent_after_boot,
-        };
-        if outlasts(alloc, &found)? {
-            let _ = tell_outlasted(self.folder, config, errors);
-            return Err(Fault::Store);
-        }
-        Ok(begin(alloc, &found)?)
+        let kept = self.disk.read(alloc);
+        begin_with(alloc, &boot, kept, state, config, told, errors)
     }
 }
 
 impl<'a, M: Net + time::Clock + Files<File = File>> Locked<'a, M> {
-    /// Reads both clocks of the machine. Refused with `NoClock` where one can't be read: a line in `errors` says why.
+    /// Reads both clocks of the machine, as [`read_clocks`] does, after the folder was locked.
     pub fn clocks<'m, E: Write>(
         &self,
         machine: &'m M,
@@ -141,18 +132,61 @@ impl<'a, M: Net + time::Clock + Files<File = File>> Locked<'a, M> {
         ensures ok { IfOk result (λ clocks. AreRead clocks.steady clocks.told clocks.day) }
         ensures err { IfErr result (λ fault. fault ≡ Fault.NoClock) }
     {
-        let mut steady = steady_clock(machine, addr, errors)?;
-        let mut day = readable_clock(machine, addr, errors)?;
-        let before = steady.now();
-        let time = day.now();
-        let monotonic = steady.now();
-        let told = Told {
-            before,
-            time,
-            monotonic,
-        };
-        Ok(Clocks { steady, day, told })
+        read_clocks(machine, addr, errors)
     }
+}
+
+/// Reads both clocks of the machine. Refused with `NoClock` where one can't be read: a line in `errors` says why.
+pub(crate) fn read_clocks<'m, M: Net + time::Clock + Files<File = File>, E: Write>(
+    machine: &'m M,
+    addr: Addr,
+    errors: &mut E,
+) -> Result<Clocks<'m, M>, Fault>
+    ensures ok { IfOk result (λ clocks. AreRead clocks.steady clocks.told clocks.day) }
+    ensures err { IfErr result (λ fault. fault ≡ Fault.NoClock) }
+{
+    let mut steady = steady_clock(machine, addr, errors)?;
+    let mut day = readable_clock(machine, addr, errors)?;
+    let before = steady.now();
+    let time = day.now();
+    let monotonic = steady.now();
+    let told = Told {
+        before,
+        time,
+        monotonic,
+    };
+    Ok(Clocks { steady, day, told })
+}
+
+/// A server begins with these octets of the file, in this boot, by what these clocks told. Refused as [`Locked::begin`] is.
+pub(crate) fn begin_with<E: Write>(
+    alloc: Global,
+    boot: &Boot,
+    kept: io::Result<Option<Vec<u8>>>,
+    state: &StateFolder,
+    config: Config,
+    told: Told,
+    errors: &mut E,
+) -> Result<Begun, Fault>
+    ensures ok { IfOk result (IsFoundHere config told state.now.silent_after_boot) }
+    ensures err { IfErr result IsStoreFault }
+{
+    let folder = state.path.as_str();
+    let kept = match kept {
+        Ok(kept) => kept,
+        Err(error) => return Err(refused("the leases can't be read", folder, error, errors)),
+    };
+    let found = Found {
+        kept: kept.as_ref().map(|octets| octets.as_slice()),
+        config,
+        seen: told.seen_in(boot),
+        silent_after_boot: state.silent_after_boot,
+    };
+    if outlasts(alloc, &found)? {
+        let _ = tell_outlasted(alloc, folder, &found, errors);
+        return Err(Fault::Store);
+    }
+    Ok(begin(alloc, &found)?)
 }
 
 /// Opens the store of a folder with the leases of a server that begins. A file that is damaged or of another version is set aside before.
@@ -182,7 +216,7 @@ pub(crate) fn open_store<'a, M: Files<File = File> + time::Clock, E: Write>(
 }
 
 /// The boot of this machine. Refused with `Memory` or `Store`.
-fn boot_here<M: Files, E: Write>(
+pub(crate) fn boot_here<M: Files, E: Write>(
     machine: &M,
     alloc: Global,
     folder: &str,
@@ -215,7 +249,7 @@ fn is_unreadable(reason: &Option<Reason>) -> bool {
 
 /// What an error of the folder is to the program: `Memory` where the system is out of memory, else `Store`. A line in `errors` says
 /// what can't be done, and why; a failure to write it is ignored.
-fn refused<E: Write>(what: &str, folder: &str, error: io::Error, errors: &mut E) -> Fault
+pub(crate) fn refused<E: Write>(what: &str, folder: &str, error: io::Error, errors: &mut E) -> Fault
     ensures { IsStoreFault result }
 {
     let _ = tell(what, folder, error, errors);
@@ -230,16 +264,44 @@ fn tell<E: Write>(what: &str, folder: &str, error: io::Error, errors: &mut E) ->
     errors.flush()
 }
 
-fn tell_outlasted<E: Write>(folder: &str, config: Config, errors: &mut E) -> io::Result<()> {
-    let silent = config.longest();
+/// Says that a lease may outlast the silence, under which longest lease it was kept, and from when on a start outlasts it, where these are
+/// known.
+fn tell_outlasted<E: Write>(
+    alloc: Global,
+    folder: &str,
+    found: &Found<'_>,
+    errors: &mut E,
+) -> io::Result<()> {
+    let silent = found.config.longest();
+    let mut known = String::new(alloc);
+    write_outlasted(alloc, found, &mut known)?;
     writeln!(
         errors,
-        "nbt: {folder}: a lease that was kept under a longer LONGEST may outlast a silence of {silent} s: start with that LONGEST, or remove leases there when it has passed"
+        "nbt: {folder}: a lease that was kept under a longer LONGEST may outlast a silence of {silent} s{known}: start with that LONGEST, or remove leases there when it has passed"
     )?;
     errors.flush()
 }
 
-fn tell_used<E: Write>(folder: &str, errors: &mut E) -> io::Result<()> {
+/// Appends what is known of it, as ` (was 300 s; starts at 2026-11-24T09:17:03Z)`.
+fn write_outlasted(alloc: Global, found: &Found<'_>, out: &mut String) -> Result<(), AllocError> {
+    let Some(octets) = found.kept else {
+        return Ok(());
+    };
+    let Some(header) = load_header(alloc, octets)? else {
+        return Ok(());
+    };
+    let was = header.longest;
+    write!(out, " (was {was} s")?;
+    if let Some(wait) = outlasts_for(alloc, found)? {
+        out.push_str("; starts at ")?;
+        let at = found.seen.day.get().saturating_add(wait);
+        write_time(at.div_ceil(SECOND), out)?;
+    }
+    out.push_str(")")
+}
+
+/// Says that another server has the lock of a folder.
+pub(crate) fn tell_used<E: Write>(folder: &str, errors: &mut E) -> io::Result<()> {
     writeln!(errors, "nbt: another server uses {folder}")?;
     errors.flush()
 }

@@ -9,7 +9,8 @@ ghost use Rattle.nbt_nbns.specs.Reports.{figures_of};
 
 use nbt_lease::{Lease, Moment};
 use nbt_log::{
-    Dates, Figures, Health, Origin, Tally, measure, write_hosts, write_list, write_stats,
+    Dates, Figures, FixedCapitals, Health, Origin, Tally, measure, write_hosts, write_list,
+    write_stats,
 };
 use nbt_name::Name;
 use nbt_server::Server;
@@ -33,15 +34,15 @@ pub trait Report {
 }
 
 /// What of a server's rows is listed.
-#[derive(Clone, Copy, Debug, PartialEq, Eq)]
-pub enum Listing {
+#[derive(Clone, Copy)]
+pub enum Listing<'a> {
     /// The live leases, as [`write_list`] has them.
     Leases,
-    /// The hosts, as [`write_hosts`] has them.
-    Hosts,
+    /// The hosts, as [`write_hosts`] has them, beside these names that are fixed.
+    Hosts(&'a FixedCapitals),
 }
 
-impl Report for Listing {
+impl Report for Listing<'_> {
     ghost use Rattle.nbt_nbns.specs.Reports.{Lists};
 
     ghost says = { Lists };
@@ -57,7 +58,7 @@ impl Report for Listing {
         let rows = rows_of(alloc, server)?;
         match self {
             Listing::Leases => write_list(dates, now, rows.as_slice(), out),
-            Listing::Hosts => write_hosts(now, rows.as_slice(), out),
+            Listing::Hosts(fixed) => write_hosts(alloc, now, rows.as_slice(), fixed, out),
         }
     }
 }

@@ -23,7 +23,7 @@ use nbt_lease::{Lease, Moment};
 use nbt_log::Dates;
 use nbt_name::Name;
 use nbt_port::{Ahead, Fault, MachineClock, SteadyClock, UdpPorts};
-use nbt_serve::Waiting;
+use nbt_serve::{Share, Waiting};
 use nbt_server::Server;
 use nbt_store::Begun;
 use std::alloc::Global;
@@ -45,7 +45,7 @@ pub(crate) struct StartedServer<'a, M: time::Clock + Files> {
     pub standing: Vec<(Name, Lease)>,
 }
 
-/// Locks the folder, reads then the clocks and the file, and prints how a server begins with what is found. Before, a line in `errors` says of each lease that
+/// Over a folder that is locked, reads the clocks and the file, and prints how a server begins with what is found. Before, a line in `errors` says of each lease that
 /// stands in the way of a fixed name until when it does. Refused with `Output`, and else with another fault than `Device`, before anything is printed; a line
 /// in `errors` says why.
 pub(crate) fn start<'a, M: Net + time::Clock + Files<File = File>, W: Write, E: Write>(
@@ -53,6 +53,7 @@ pub(crate) fn start<'a, M: Net + time::Clock + Files<File = File>, W: Write, E: 
     alloc: Global,
     arguments: &NbnsArguments,
     state: &'a StateFolder,
+    locked: Locked<'a, M>,
     port: &UdpPorts<'_, M>,
     writer: &mut W,
     errors: &mut E,
@@ -60,7 +61,6 @@ pub(crate) fn start<'a, M: Net + time::Clock + Files<File = File>, W: Write, E: 
     ensures ok { IfOk result (λ started. Starts (StartsKept arguments.now state.now) arguments.now started.standing.items (W.contents writer.old) (W.contents writer.new) started.kept) }
     ensures err { IfErr result (StartsNot (W.contents writer.old) (W.contents writer.new)) }
 {
-    let locked = Locked::lock(machine, alloc, state.path.as_str(), errors)?;
     let clocks = locked.clocks(machine, arguments.bind.first(), errors)?;
     let told = clocks.told;
     let time = told.time;
@@ -74,11 +74,13 @@ pub(crate) fn start<'a, M: Net + time::Clock + Files<File = File>, W: Write, E: 
     let journal = tell_begin(
         machine, alloc, arguments, port, &begun, time, count, writer, errors,
     )?;
+    let share = Share::new(alloc, arguments.changes_per_client);
     let rows_per_client = arguments.rows_per_client;
     let kept = kept_of(
         begun,
         opened.store,
         clocks,
+        share,
         waiting,
         teller,
         journal,
@@ -88,7 +90,11 @@ pub(crate) fn start<'a, M: Net + time::Clock + Files<File = File>, W: Write, E: 
 }
 
 /// Of these leases those that stand in the way of this front's names. Where there are none, what the others took is given back.
-fn standing_of(alloc: Global, front: &Front, rows: Vec<(Name, Lease)>) -> Vec<(Name, Lease)>
+pub(crate) fn standing_of(
+    alloc: Global,
+    front: &Front,
+    rows: Vec<(Name, Lease)>,
+) -> Vec<(Name, Lease)>
     ensures { result.items ≡ in_the_way front.now.fixed rows.items }
 {
     let mut rows = rows;
@@ -104,12 +110,13 @@ fn kept_of<'a, M: Net + time::Clock + Files>(
     begun: Begun,
     store: FolderStore<'a, M>,
     clocks: Clocks<'a, M>,
+    share: Share,
     waiting: Waiting,
     teller: Teller,
     journal: MachineJournal<'a, M>,
     rows_per_client: u32,
 ) -> Resumed<'a, M>
-    ensures { result ≡ kept_of begun store.entry clocks.entry.steady clocks.entry.day waiting teller journal.entry rows_per_client }
+    ensures { result ≡ kept_of begun store.entry clocks.entry.steady clocks.entry.day share waiting teller journal.entry rows_per_client }
 {
     let Clocks { steady, day, .. } = clocks;
     let Begun { server, header, .. } = begun;
@@ -124,6 +131,7 @@ fn kept_of<'a, M: Net + time::Clock + Files>(
         state: Some(State {
             store,
             header,
+            share,
             waiting,
             teller,
         }),

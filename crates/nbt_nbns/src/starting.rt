@@ -163,6 +163,7 @@ pub fn journal_of<'a, M: Files, D: Drop, E: Write>(
         log: log_of(alloc, arguments.log, arguments.broadcasts),
         leases,
         hosts,
+        fixed: arguments.front.fixed().capitals(alloc)?,
         stats,
         tally: Tally::new(),
         origin: origin_of(&dates, start, arguments.config),

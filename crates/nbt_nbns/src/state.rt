@@ -11,7 +11,7 @@ use nbt_lease::{Lease, Moment};
 use nbt_log::{Entry, Health};
 use nbt_name::Name;
 use nbt_port::{Clock, Port};
-use nbt_serve::{KeepFault, Waiting, keep_turn, look_after, serve_turn};
+use nbt_serve::{KeepFault, Sent, Share, Waiting, keep_turn, look_after, serve_turn};
 use nbt_server::Server;
 use nbt_store::{Broken, Header, Store, Syncs};
 use std::io;
@@ -24,6 +24,8 @@ pub struct State<S> {
     pub store: S,
     /// The header of their file.
     pub header: Header,
+    /// How many changes its clients made in this second.
+    pub share: Share,
     /// The replies that wait until what they rest on is kept.
     pub waiting: Waiting,
     /// The turns that aren't shown yet, since a reply waits.
@@ -31,7 +33,7 @@ pub struct State<S> {
 }
 
 /// The server goes through one turn: with a state as [`keep_turn`] has it, and without one as [`serve_turn`] has it, so that its reply
-/// leaves in the turn. `entry` is what the server did with the datagram that came. Returns the moment at which what waited left, if it did.
+/// leaves in the turn. `entry` is what the server did with the datagram that came. Returns what left in the turn.
 pub(crate) fn take_turn<P: Port, C: Clock, S: Store>(
     port: &mut P,
     clock: &mut C,
@@ -40,9 +42,9 @@ pub(crate) fn take_turn<P: Port, C: Clock, S: Store>(
     octets: &mut ArrayVec<u8, 2048>,
     reply: &mut ArrayVec<u8, 576>,
     entry: &mut Option<Entry>,
-) -> Result<Option<Moment>, KeepFault>
+) -> Result<Sent, KeepFault>
     requires room { HasRoom state.old }
-    ensures ok { IfOk result (λ left. Turns P.does S.does C.tells (record { port = port.old; clock = clock.old; server = server.old; state = state.old }) entry.new left
+    ensures ok { IfOk result (λ sent. Turns P.does S.does C.tells (record { port = port.old; clock = clock.old; server = server.old; state = state.old }) entry.new sent
         (record { port = port.new; clock = clock.new; server = server.new; state = state.new })) }
     ensures err { IfErr result (λ why. Breaks P.does S.does C.tells why (record { port = port.old; clock = clock.old; server = server.old; state = state.old })
         (record { port = port.new; clock = clock.new; server = server.new; state = state.new })) }
@@ -53,7 +55,10 @@ pub(crate) fn take_turn<P: Port, C: Clock, S: Store>(
         None => {
             let turned = serve_turn(port, clock, server, octets, reply)?;
             *entry = turned.entry;
-            Ok(None)
+            Ok(Sent {
+                ahead: true,
+                left: None,
+            })
         }
     }
 }
@@ -67,9 +72,9 @@ fn keep_in<P: Port, C: Clock, S: Store>(
     octets: &mut ArrayVec<u8, 2048>,
     reply: &mut ArrayVec<u8, 576>,
     entry: &mut Option<Entry>,
-) -> Result<Option<Moment>, KeepFault>
+) -> Result<Sent, KeepFault>
     requires room { HasRoom (Some state.old) }
-    ensures ok { IfOk result (λ left. Turns P.does S.does C.tells (record { port = port.old; clock = clock.old; server = server.old; state = Some state.old }) entry.new left
+    ensures ok { IfOk result (λ sent. Turns P.does S.does C.tells (record { port = port.old; clock = clock.old; server = server.old; state = Some state.old }) entry.new sent
         (record { port = port.new; clock = clock.new; server = server.new; state = Some state.new })) }
     ensures err { IfErr result (λ why. Breaks P.does S.does C.tells why (record { port = port.old; clock = clock.old; server = server.old; state = Some state.old })
         (record { port = port.new; clock = clock.new; server = server.new; state = Some state.new })) }
@@ -80,35 +85,36 @@ fn keep_in<P: Port, C: Clock, S: Store>(
         clock,
         &mut state.store,
         server,
+        &mut state.share,
         &mut state.waiting,
         octets,
         reply,
         entry,
     ) {
-        Ok(left) => Ok(left),
+        Ok(sent) => Ok(sent),
         Err(why) => Err(why),
     }
 }
 
-/// The watcher is shown the turn: with a state once no reply waits, as [`Teller`] says, and without one at once. What waited left at
-/// this moment, if it did.
+/// The watcher is shown the turn: with a state once no reply waits, as [`Teller`] says, and without one at once. So much
+/// left in the turn.
 pub(crate) fn show<S, V: Watcher, W: Write, E: Write>(
     state: &mut Option<State<S>>,
     server: &Server,
-    left: Option<Moment>,
+    sent: Sent,
     shown: &mut Shown,
     watcher: &mut V,
     writer: &mut W,
     errors: &mut E,
 )
-    ensures seen { SeesTurn V.sees server.now left shown.old state.old (record { watcher = watcher.old; text = W.contents writer.old }) state.new (record { watcher = watcher.new; text = W.contents writer.new }) }
+    ensures seen { SeesTurn V.sees server.now sent shown.old state.old (record { watcher = watcher.old; text = W.contents writer.old }) state.new (record { watcher = watcher.new; text = W.contents writer.new }) }
     ensures room { HasRoom state.old → HasRoom state.new }
 {
     match state {
         Some(state) => state.teller.tell(
             server,
             &state.waiting,
-            left,
+            sent,
             shown,
             watcher,
             writer,
@@ -145,6 +151,7 @@ fn look_in<S: Store, D: Clock>(
     at: Moment,
 ) -> Result<(), Broken>
     ensures looks { MatchResult result (λ _. LooksAfter S.does D.tells server.now at (desk_of state.old day.old) (desk_of state.new day.new)) (λ _. FailsToLook S.does D.tells server.now at (desk_of state.old day.old) (desk_of state.new day.new)) }
+    ensures share { state.new.share ≡ state.old.share }
     ensures teller { state.new.teller ≡ state.old.teller }
     ensures room { HasRoom (Some state.old) → HasRoom (Some state.new) }
 {
@@ -173,13 +180,14 @@ pub(crate) fn is_idle<S>(state: &Option<State<S>>) -> bool
 pub(crate) fn health_of<P: Port, S: Store>(port: &P, state: &Option<State<S>>) -> Health
     ensures { result.failures ≡ P.failures port.now }
 {
-    let syncs = match state {
-        Some(state) => state.store.syncs(),
-        None => Syncs::NONE,
+    let (syncs, barred) = match state {
+        Some(state) => (state.store.syncs(), state.share.barred()),
+        None => (Syncs::NONE, 0),
     };
     Health {
         failures: port.failures(),
         own: port.own_replies(),
+        barred,
         syncs: syncs.count,
         sync_milliseconds: syncs.milliseconds(),
     }
@@ -193,9 +201,13 @@ pub(crate) fn tell_store<S: Store, E: Write>(state: &Option<State<S>>, errors: &
 }
 
 fn write_store<S: Store, E: Write>(store: &S, errors: &mut E) -> io::Result<()> {
+    write!(errors, "nbt: ")?;
+    if let Some(folder) = store.folder() {
+        write!(errors, "{folder}: ")?;
+    }
     match store.error() {
-        Some(error) => writeln!(errors, "nbt: the leases can't be kept: {error}")?,
-        None => writeln!(errors, "nbt: the leases can't be kept")?,
+        Some(error) => writeln!(errors, "the leases can't be kept: {error}")?,
+        None => writeln!(errors, "the leases can't be kept")?,
     }
     errors.flush()
 }

@@ -9,7 +9,7 @@ ghost use Rattle.nbt_nbns.specs.Teller.{SeesOne, Tells, has_left, is_shown, queu
 use crate::staying::{Shown, Watcher};
 use nbt_lease::{Config, Moment};
 use nbt_log::Entry;
-use nbt_serve::{BATCH, Waiting};
+use nbt_serve::{BATCH, Sent, Waiting};
 use nbt_server::Server;
 use std::alloc::{AllocError, Global};
 use std::collections::VecDeque;
@@ -21,6 +21,8 @@ use std::marker::Model;
 pub struct Untold {
     /// When its datagram was read.
     pub read: Moment,
+    /// Whether its reply went ahead of those that wait.
+    pub ahead: bool,
     /// What the server did with it.
     pub entry: Entry,
 }
@@ -30,7 +32,7 @@ impl Untold {
     fn is_shown(&self, limits: Config, left: Option<Moment>) -> bool
         ensures { result ≡ is_shown limits.life left self.now }
     {
-        !self.entry.outcome.has_reply() || self.has_left(limits, left)
+        !self.entry.outcome.has_reply() || self.ahead || self.has_left(limits, left)
     }
 
     /// Whether its reply has left then.
@@ -70,26 +72,26 @@ impl Teller {
         Ok(Teller { untold })
     }
 
-    /// A turn was this, in which what waited left at this moment, if it did. The watcher is shown each turn whose reply has left by now, in
+    /// A turn was this, in which so much left. The watcher is shown each turn whose reply has left by now, in
     /// their order, this one last: so nothing while a reply waits, and that nothing was where there is none. A turn is left out whose
     /// reply was dropped since it would have left too late.
     pub(crate) fn tell<V: Watcher, W: Write, E: Write>(
         &mut self,
         server: &Server,
         waiting: &Waiting,
-        left: Option<Moment>,
+        sent: Sent,
         shown: &mut Shown,
         watcher: &mut V,
         writer: &mut W,
         errors: &mut E,
     )
-        ensures { Tells V.sees server.now waiting.now left shown.old self.old (record { watcher = watcher.old; text = W.contents writer.old }) self.new (record { watcher = watcher.new; text = W.contents writer.new }) }
+        ensures { Tells V.sees server.now waiting.now sent shown.old self.old (record { watcher = watcher.old; text = W.contents writer.old }) self.new (record { watcher = watcher.new; text = W.contents writer.new }) }
     {
-        self.queue(server.last(), shown.entry.take());
+        self.queue(server.last(), sent.ahead, shown.entry.take());
         if !waiting.is_empty() {
             return;
         }
-        self.drop_late(server.table().config(), left);
+        self.drop_late(server.table().config(), sent.left);
         if self.has_none() {
             watcher.see(server, shown, writer, errors);
             return;
@@ -105,8 +107,8 @@ impl Teller {
     }
 
     /// One more turn is to be shown, if the server took a datagram in it.
-    fn queue(&mut self, read: Moment, entry: Option<Entry>)
-        ensures { self.new ≡ queued self.old read entry }
+    fn queue(&mut self, read: Moment, ahead: bool, entry: Option<Entry>)
+        ensures { self.new ≡ queued self.old read ahead entry }
     {
         let Some(entry) = entry else {
             return;
@@ -114,7 +116,8 @@ impl Teller {
         if self.untold.len() >= BATCH {
             self.untold.clear();
         }
-        self.untold.push_back_reserved(Untold { read, entry });
+        self.untold
+            .push_back_reserved(Untold { read, ahead, entry });
     }
 
     /// The turns are left out whose replies were dropped.

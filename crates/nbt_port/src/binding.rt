@@ -27,6 +27,28 @@ pub fn bound_port<M: Net, E: Write>(
     }
 }
 
+/// The same for a command that takes `--bind`: where the system keeps the port for privileged programs, a second line in `errors` says what to do.
+pub fn own_port<M: Net, E: Write>(machine: &M, addr: Addr, errors: &mut E) -> Result<UdpPort, Fault>
+    ensures ok { IfOk result (λ port. port ≡ record { addr = addr; failures = 0 }) }
+    ensures err { IfErr result IsNotBound }
+{
+    let bound = UdpPort::bind(machine, addr);
+    match bound {
+        Ok(own) => Ok(own),
+        Err(error) => Err(own_not_bound(addr, error, errors)),
+    }
+}
+
+/// Why its socket can't be bound, as [`not_bound`] says, with that second line.
+pub fn own_not_bound<E: Write>(addr: Addr, error: io::Error, errors: &mut E) -> Fault
+    ensures value { result ≡ fault_of_bind error }
+    ensures either { IsNotBound result }
+{
+    let fault = not_bound(addr, error, errors);
+    Cause::new(MachineCall::Bind, addr, error).advise(errors);
+    fault
+}
+
 /// Why no socket can be bound to this address: `Memory` where the system is out of memory, else `NoPort`. A line in `errors`
 /// says so; a failure to write it is ignored.
 pub fn not_bound<E: Write>(addr: Addr, error: io::Error, errors: &mut E) -> Fault

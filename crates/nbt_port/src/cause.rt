@@ -5,6 +5,9 @@ use std::io::Write;
 use std::net::{Ipv4Addr, SocketAddrV4};
 use std::{fmt, io};
 
+/// The first port that needs no privileges, as most systems have it.
+const PRIVILEGED_END: u16 = 1_024;
+
 /// A call of the system.
 #[derive(Clone, Copy, Debug, PartialEq, Eq)]
 pub enum MachineCall {
@@ -53,6 +56,21 @@ impl Cause {
         self.error.kind() == io::ErrorKind::OutOfMemory
     }
 
+    /// Where the system keeps a port for privileged programs, prints a line that says what to do for a command that takes `--bind`. A failure to
+    /// write it is ignored.
+    pub(crate) fn advise<E: Write>(&self, errors: &mut E) {
+        if self.is_of_privileges() {
+            let _ = write_advice(errors);
+        }
+    }
+
+    /// Whether the system keeps the port for privileged programs.
+    fn is_of_privileges(&self) -> bool {
+        self.call == MachineCall::Bind
+            && self.end.port < PRIVILEGED_END
+            && self.error.kind() == io::ErrorKind::PermissionDenied
+    }
+
     /// Prints the line `nbt: `, the text and `more`. A failure to write it is ignored.
     pub fn tell<E: Write>(&self, more: &str, errors: &mut E) {
         let _ = write_line(self, more, errors);
@@ -70,5 +88,13 @@ impl fmt::Display for Cause {
 
 fn write_line<E: Write>(cause: &Cause, more: &str, errors: &mut E) -> io::Result<()> {
     writeln!(errors, "nbt: {cause}{more}")?;
+    errors.flush()
+}
+
+fn write_advice<E: Write>(errors: &mut E) -> io::Result<()> {
+    writeln!(
+        errors,
+        "nbt: a port below {PRIVILEGED_END} needs privileges: run it as root or with CAP_NET_BIND_SERVICE, or give it another one by --bind ADDRESS:PORT"
+    )?;
     errors.flush()
 }

@@ -27,7 +27,7 @@ mod until;
 
 pub use ahead::{Ahead, ahead_of};
 pub use bind::Bind;
-pub use binding::{bound_port, local_of, not_bound};
+pub use binding::{bound_port, local_of, not_bound, own_not_bound, own_port};
 pub use cause::{Cause, MachineCall};
 pub use clock::Clock;
 pub use fault::Fault;

@@ -5,7 +5,7 @@ ghost use Rattle.nbt_port.specs.Faults.{IsNotBound};
 ghost use Rattle.nbt_port.specs.PortCalls.{receiving, CountsFailure};
 
 use crate::bind::{Bind, anywhere};
-use crate::binding::not_bound;
+use crate::binding::{not_bound, own_not_bound};
 use crate::cause::{Cause, MachineCall};
 use crate::fault::Fault;
 use crate::machine_addresses::{LIST, read_own};
@@ -75,7 +75,7 @@ impl<'a, M: Net + Files + time::Clock> UdpPorts<'a, M> {
     ghost use Rattle.nbt_port.specs.Udp.{PortsDo};
 
     /// Binds a port to these addresses of the system. Of each that can't be bound a line in `errors` says why. Refused where one that
-    /// is named can't be bound; where all are meant, and none can be bound; or where it is out of memory: as [`not_bound`] says.
+    /// is named can't be bound; where all are meant, and none can be bound; or where it is out of memory: as [`own_not_bound`] says.
     /// Where all are meant, and the system doesn't list them, one socket at 0.0.0.0 stands for all, and a line in `errors` says why.
     pub fn bind<E: Write>(
         machine: &'a M,
@@ -135,7 +135,7 @@ impl<'a, M: Net + Files + time::Clock> UdpPorts<'a, M> {
     {
         for addr in addresses {
             if let Err(error) = self.sockets.open(self.machine, *addr) {
-                return Err(not_bound(*addr, error, errors));
+                return Err(own_not_bound(*addr, error, errors));
             }
         }
         Ok(())
@@ -156,6 +156,7 @@ impl<'a, M: Net + Files + time::Clock> UdpPorts<'a, M> {
         self.following = Some(following);
         self.tell_refused(errors);
         if self.sockets.len() == 0 {
+            self.advise(errors);
             return Err(self.refusal());
         }
         self.changes.clear();
@@ -277,6 +278,13 @@ impl<'a, M: Net + Files + time::Clock> UdpPorts<'a, M> {
             if let Change::Refused(cause) = change {
                 cause.tell("", errors);
             }
+        }
+    }
+
+    /// Says what to do where the system keeps the port for privileged programs.
+    fn advise<E: Write>(&self, errors: &mut E) {
+        if let Some(Change::Refused(cause)) = self.changes.as_slice().first() {
+            cause.advise(errors);
         }
     }
 

@@ -1,6 +1,7 @@
 pub mod Answering
 pub mod Drawing
 pub mod Failures
+pub mod Importing
 pub mod Inner
 pub mod Input
 pub mod Network

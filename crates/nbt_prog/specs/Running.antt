@@ -13,6 +13,7 @@ use Rattle.nbt_bench.specs.declared.node.NodeArguments.{NodeArguments}
 use Rattle.nbt_bench.specs.declared.serve.ServeArguments.{ServeArguments}
 use Rattle.nbt_prog.specs.Answering.{Answers, AnswerArguments}
 use Rattle.nbt_prog.specs.Drawing.{Draws}
+use Rattle.nbt_prog.specs.Importing.{Imports}
 use Rattle.nbt_prog.specs.Input.{IsInput}
 use Rattle.nbt_prog.specs.Showing.{ShowsHex, ExplainsHex}
 use Rattle.nbt_prog.specs.Texts.{IsHexadecimal}
@@ -36,6 +37,8 @@ Prints (line.Show texts) known well printed = PrintsShow texts texts.explain kno
 Prints line.Check known well printed = (input : List ℕ) × IsInput known input × PrintsChecked input well printed
 Prints line.Sim known well printed = (input : List ℕ) × IsInput known input × Plays 1 None (lines input) well printed
 Prints line.Draw known well printed = (input : List ℕ) × IsInput known input × Draws input well
+Prints (line.Import texts) known well printed = Imports printed
+Prints (line.Leases texts) known well printed = Unit {0}
 Prints _ known well printed = ⊥
 
 -- It was done: its output was appended, and the status is 0 if nothing is wrong, else 1.

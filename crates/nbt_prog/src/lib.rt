@@ -28,6 +28,7 @@ use std::convert::AsStr;
 use std::fs::File;
 use std::io::{Read, Write};
 use std::net::Net;
+use std::random::RandomSource;
 use std::rt::Files;
 use std::{io, time};
 
@@ -39,10 +40,12 @@ const OUT_OF_MEMORY: &str = "nbt: memory was refused\n";
 ///
 /// - 0: done.
 /// - 1: an address, a hexadecimal text or the input can't be read; prints `unreadable`. Or `show` found a fault, which it
-///   prints, or `check` a vector that failed, or `sim` a line that can't be read.
+///   prints, or `check` a vector that failed, or `sim` a line that can't be read. Or a file is none that `import` or `leases` reads, or
+///   `import` took no name of it.
 /// - 2: wrong usage; prints what is wrong and the usage. Or an argument of a command for people who run a network (`lookup`, `status`,
 ///   `nbns`, `host`, `release`, `scan`) is invalid; prints nothing: see [`command_telling`].
-/// - 3: `reader` or `writer` failed; prints `device`, unless it was the writer. The commands for people who run a network, `serve`,
+/// - 3: `reader` or `writer` failed; prints `device`, unless it was the writer. `import` and `leases` end so where they are to read
+///   another file than standard input, and know no time. The commands for people who run a network, `serve`,
 ///   `node` and `loop` end so too, since they need a machine: see [`command_telling`].
 /// - 4: out of memory; prints `memory`.
 pub fn command<S: AsStr, R: Read, W: Write>(
@@ -64,19 +67,20 @@ pub fn command<S: AsStr, R: Read, W: Write>(
 /// Runs the command that `arguments` name, as [`command`] does, and on this machine also those that open sockets: `lookup`, `status`,
 /// `nbns`, `host`, `release`, `scan`, `serve`, `node` and `loop`. The first two write to `writer` at their end, with the status 0, 1 if
 /// the name isn't found, or 5 if no reply came; the others write while they run, `host` with the status 5 if a name wasn't held at its
-/// end. If an argument of the first six is invalid, a line in `errors` says what is wrong, and the status is 2. A line in `errors` also
-/// explains `unreadable` and `memory`. `scan --json` prints `device` and `memory` in an object of JSON. The status is 3 too if a port
+/// end, and `nbns` with the status 6 if another server has its folder. If an argument of the first six is invalid, a line in `errors` says what is wrong, and the status is 2. A line in `errors` also
+/// explains `unreadable` and `memory`. `import` and `leases` read files of the machine, and its time of day; a line in `errors` says why
+/// one can't be read, with the status 3, or what was made of it. `scan --json` prints `device` and `memory` in an object of JSON. The status is 3 too if a port
 /// can't be bound, if a clock can't be read at the start, or if a socket failed. Then a line in `errors` says which call of the system
 /// failed, for which address, and why. With `--forever` a line in `errors` reports a socket that failed, and only the hundredth failed
 /// turn in a row ends the command. Failures to write to `errors` are ignored.
 pub fn command_telling<
-    M: Net + time::Clock + Files<File = File>,
+    M: Net + time::Clock + RandomSource + Files<File = File>,
     S: AsStr,
     R: Read,
     W: Write,
     E: Write,
 >(machine: &M, alloc: Global, arguments: &[S], reader: &mut R, writer: &mut W, errors: &mut E) -> u8
-    ensures bound { result ≤ 5 }
+    ensures bound { result ≤ 6 }
 {
     let status = match nbt_args::read(alloc, arguments) {
         Ok(line) => run_on(machine, alloc, &line, reader, writer, errors),

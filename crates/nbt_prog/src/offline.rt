@@ -1,4 +1,4 @@
-//! The commands that open no socket: `answer`, `show`, `check`, `sim` and `sim --draw`. The texts of a command's arguments and its input come
+//! The commands that open no socket: `answer`, `show`, `check`, `sim`, `sim --draw`, `import` and `leases`. The texts of a command's arguments and its input come
 //! in, and all that it prints goes out, with what a line on standard error is to say (our profile).
 //!
 //! Nothing here knows the command line.
@@ -7,7 +7,10 @@ mod checking;
 mod drawing;
 mod explaining;
 mod failure;
+mod files;
+mod importing;
 mod input;
+mod listing;
 mod playing;
 mod printed;
 mod reason;
@@ -19,6 +22,9 @@ pub use checking::check;
 pub use drawing::draw;
 pub use explaining::explain;
 pub use failure::Failure;
+pub use files::{Here, Nowhere, Place};
+pub use importing::import;
+pub use listing::leases;
 pub use playing::sim;
 pub use printed::{Ending, Printed};
 pub use reason::report;

@@ -13,7 +13,7 @@ use crate::failure::Failure;
 use crate::network::{node_arguments, serve_arguments};
 use crate::numbers::{ports_of, time_of};
 use crate::offline;
-use crate::offline::Printed;
+use crate::offline::{Nowhere, Place, Printed};
 use nbt_args::{AnswerTexts, CommandLine, ShowTexts};
 use nbt_port::Fault;
 use std::alloc::Global;
@@ -55,10 +55,41 @@ fn outcome_of<R: Read, E: Write>(
         CommandLine::Check => Ok(offline::check(alloc, reader, errors)?),
         CommandLine::Sim => Ok(offline::sim(alloc, reader, errors)?),
         CommandLine::Draw => Ok(offline::draw(alloc, reader, errors)?),
+        CommandLine::Import(_) | CommandLine::Leases(_) => {
+            listed(&Nowhere, alloc, line, reader, errors)
+        }
         _ => {
             check_arguments(alloc, line, errors)?;
             Err(Failure::Fault(Fault::Device))
         }
+    }
+}
+
+/// Runs a command that reads lists up to its whole output, with the files of this place.
+pub fn listed<P: Place, R: Read, E: Write>(
+    place: &P,
+    alloc: Global,
+    line: &CommandLine<'_>,
+    reader: &mut R,
+    errors: &mut E,
+) -> Result<Printed, Failure>
+    ensures printed { IfOk result (λ printed.
+        Prints line.now (R.remaining reader.old) (is_done printed.ending) (string_bytes printed.text)) }
+    ensures failure { IfErr result (λ failure. failure_status failure ≢ 0) }
+{
+    match line {
+        CommandLine::Import(texts) => Ok(offline::import(
+            place,
+            alloc,
+            texts.files.as_slice(),
+            texts.from,
+            reader,
+            errors,
+        )?),
+        CommandLine::Leases(texts) => Ok(offline::leases(
+            place, alloc, texts.file, texts.json, reader, errors,
+        )?),
+        _ => Err(Failure::Fault(Fault::Device)),
     }
 }
 

@@ -1,12 +1,9 @@
 -- A node status response, as one packet and one message spell it.
-use Rattle.std.proofs.Common.{◌≡◌, ◌≢◌, ℕ, ◌+◌, List, length, drop, Option, Result, Ok, Err, Some, None, sym, ap, subst, refl}
+use Rattle.std.proofs.Common.{◌≡◌, ◌≢◌, ℕ, ◌+◌, List, length, drop, Option, Result, Ok, Err, Some, None, sym, ap, subst}
 use Rattle.std.specs.Prelude.{IfNone}
-use Rattle.std.specs.Borrow.{Bor}
 use Rattle.nbt_packet.specs.declared.fault.Fault.{Fault}
 use Rattle.nbt_name.specs.Wire.{NameValue}
-use Rattle.nbt_packet.specs.declared.message.Message.{Message}
-use Rattle.nbt_packet.specs.declared.message.Message.TheVariants as m
-use Rattle.nbt_packet.specs.Message.{MessageValue, MessageIs, message_of, status}
+use Rattle.nbt_packet.specs.Message.{MessageValue, MessageIs, status}
 use Rattle.nbt_packet.specs.Packet.{PacketValue, RecordValue, PacketIs}
 use Rattle.nbt_scan.specs.Statuses.{IsStatus, IsNoStatus}
 

@@ -1,11 +1,9 @@
 -- How many addresses haven't replied.
-use Rattle.std.proofs.Common.{◌≡◌, ℕ, ◌+◌, ◌<◌, Bool, true, false, not, cond, List, [], ◌∷◌, length, get_or, refl, ap, ◌∙◌, arith, zero-add, Some, count_by}
+use Rattle.std.proofs.Common.{◌≡◌, ℕ, ◌+◌, ◌<◌, Bool, true, false, not, cond, List, [], ◌∷◌, length, get_or, refl, arith, Some, count_by}
 use Rattle.std.proofs.Math.ListN.{set}
 use Rattle.std.proofs.lemmas.List.Sums.{sum_by-set, sum_by-cons}
 use Rattle.std.proofs.lemmas.Option.{slice_get_within, get_or_from_slice_get}
-use Rattle.std.proofs.lemmas.Bool.Decides.{nat_tests}
-use Rattle.std.specs.List.{list_all, slice_get}
-use Rattle.std.specs.Prelude.{nat_eq}
+use Rattle.std.specs.List.{slice_get}
 
 -- one that hadn't replied has
 pub one_less : (flags : List Bool) (i : ℕ) → slice_get flags i ≡ Some false → count_by not (set flags i true) + 1 ≡ count_by not flags

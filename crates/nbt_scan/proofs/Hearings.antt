@@ -13,14 +13,14 @@ use Rattle.nbt_scan.specs.Lines.{PrintsHost}
 use Rattle.nbt_scan.specs.Sheets.{Reply, Sheet, Tells, prints, keeps, TellsIf}
 use Rattle.nbt_scan.specs.Inner.Steps.{WasHeard}
 
-pub was_heard : {P : Type 0} (does : P → PortCall → P → Type 0) (plan : Plan) (id : ℕ) (layout : Layout) (p q : P) (scan : Scan) (after : List Bool) (a b : Sheet) (from : Option Route) (octets lent ips : List ℕ) (reply : Option Reply)
-    → lent ≡ octets → ips ≡ plan.ips.items → does p (receiving (Ok from) octets) q → Hears ips id scan.replied (receiving (Ok from) lent) reply after → TellsIf layout reply a b
-    → WasHeard does plan id layout (record { port = p; scan = scan; sheet = a }) (record { port = q; scan = record scan { replied = after }; sheet = b })
-was_heard does plan id layout p q scan after a b from octets lent ips reply same list did hears tells = record {
+pub was_heard : {P : Type 0} (does : P → PortCall → P → Type 0) (plan : Plan) (ids : List ℕ) (layout : Layout) (p q : P) (scan : Scan) (after : List Bool) (a b : Sheet) (from : Option Route) (octets lent : List ℕ) (reply : Option Reply)
+    → lent ≡ octets → does p (receiving (Ok from) octets) q → Hears plan ids scan.progress scan.replied (receiving (Ok from) lent) reply after → TellsIf layout reply a b
+    → WasHeard does plan ids layout (record { port = p; scan = scan; sheet = a }) (record { port = q; scan = record scan { replied = after }; sheet = b })
+was_heard does plan ids layout p q scan after a b from octets lent reply same did hears tells = record {
   hearing = receiving (Ok from) octets;
   reply = reply;
   receives = did;
-  hears = subst (λ (xs : List ℕ). Hears xs id scan.replied (receiving (Ok from) octets) reply after) list (subst (λ (o : List ℕ). Hears ips id scan.replied (receiving (Ok from) o) reply after) same hears);
+  hears = subst (λ (o : List ℕ). Hears plan ids scan.progress scan.replied (receiving (Ok from) o) reply after) same hears;
   progress_stays = refl;
   tells = tells;
 }

@@ -1,5 +1,5 @@
 -- How far a scan has come, and what it does at a moment (our profile).
-use Rattle.std.specs.Prelude.{ℕ, ◌+◌, ◌-◌, ◌*◌, ◌/◌, Bool, true, false, ◌||◌, nat_eq, nat_lt, if◌then◌else◌, List, length}
+use Rattle.std.specs.Prelude.{◌⊎◌, ℕ, ◌<◌, ◌+◌, ◌-◌, ◌*◌, ◌/◌, Bool, true, false, ◌||◌, nat_eq, nat_lt, if◌then◌else◌, List, length}
 use Rattle.std.specs.List.{list_all}
 use Rattle.nbt_scan.specs.declared.plan.Plan.{Plan}
 use Rattle.nbt_scan.specs.declared.progress.Progress.{Progress}
@@ -32,6 +32,10 @@ past now p = record p { place = p.place + 1; last = now }
 -- in the next pass
 abbrev pub again : (now : ℕ) → Progress → Progress
 again now p = record { left = p.left - 1; began = now; place = 0; last = now }
+
+-- The address at a place was passed, in this pass or in one before it.
+abbrev pub WasPassed : Plan → Progress → (place : ℕ) → Type 0
+WasPassed plan progress place = (place < progress.place) ⊎ (progress.left + 1 < plan.tries)
 
 -- all addresses have replied
 abbrev pub all_replied : List Bool → Bool

@@ -1,5 +1,5 @@
 -- A scan on this machine, and what is printed of it (our profile).
-use Rattle.std.specs.Prelude.{◌≡◌, ℕ, ◌%◌, ◌^◌, Bool, false, List, [], Option, replicate, length}
+use Rattle.std.specs.Prelude.{◌≡◌, ℕ, Bool, false, List, [], Option, replicate, length}
 use Rattle.std.specs.List.{list_any}
 use Rattle.std.specs.Io.KnownBytes.{Appends}
 use Rattle.nbt_name.specs.declared.addr.Addr.{Addr}
@@ -11,7 +11,6 @@ use Rattle.nbt_scan.specs.declared.plan.Plan.{Plan}
 use Rattle.nbt_scan.specs.declared.scan.Scan.{Scan}
 use Rattle.nbt_scan.specs.declared.sheet.Kept.{Kept}
 use Rattle.nbt_scan.specs.Progressing.{begun}
-use Rattle.nbt_scan.specs.Requests.{request_text}
 use Rattle.nbt_scan.specs.Scanning.{Scans}
 use Rattle.nbt_scan.specs.Sheets.{PrintsKept}
 
@@ -19,8 +18,8 @@ use Rattle.nbt_scan.specs.Sheets.{PrintsKept}
 abbrev pub first_scan : Plan → (now : ℕ) → Scan
 first_scan plan now = record { progress = begun plan now; replied = replicate (length plan.ips.items) false }
 
--- The clock is read, from which the id of all requests is, the addresses are asked, and what was kept is printed. It tells whether any replied.
-pub record ScansOver {P C : Type 0} (does : P → PortCall → P → Type 0) (tells : C → ℕ → C → Type 0) (plan : Plan) (layout : Layout) (any : Bool)
+-- The clock is read, the addresses are asked, each by its id, and what was kept is printed. It tells whether any replied.
+pub record ScansOver {P C : Type 0} (does : P → PortCall → P → Type 0) (tells : C → ℕ → C → Type 0) (plan : Plan) (ids : List ℕ) (layout : Layout) (any : Bool)
     (old_port : P) (old_clock : C) (old_text : Option (List ℕ)) (port : P) (clock : C) (text : Option (List ℕ)) : Type 0 where
   pub now : ℕ
   pub read : C
@@ -29,14 +28,14 @@ pub record ScansOver {P C : Type 0} (does : P → PortCall → P → Type 0) (te
   pub told_text : Option (List ℕ)
   pub lines : List ℕ
   pub told : tells old_clock now read
-  pub scans : Scans does tells plan (now % 2 ^ 16) (request_text (now % 2 ^ 16)) layout
+  pub scans : Scans does tells plan ids layout
       (record { clock = read; here = record { port = old_port; scan = first_scan plan now; sheet = record { kept = []; text = old_text } } })
       (record { clock = clock; here = record { port = port; scan = scan; sheet = record { kept = kept; text = told_text } } })
   pub lines_are : PrintsKept kept lines
   pub printed : Appends told_text text lines
   pub any_is : any ≡ list_any (λ reply. reply) scan.replied
 
--- over a UDP port of this machine that was bound to this address, and its steady clock
+-- over a UDP port of this machine that was bound to this address, and its steady clock, by some ids
 abbrev pub ScansHere : (bind : Addr) → Plan → Layout → (any : Bool) → (old_text text : Option (List ℕ)) → Type 0
-ScansHere bind plan layout any old_text text = (first : ℕ) × (port : UdpValue) × (clock : ℕ) × SteadyBegins SystemShows first
-    × ScansOver UdpDoes (SteadyTells SystemShows) plan layout any (record { addr = bind; failures = 0 }) first old_text port clock text
+ScansHere bind plan layout any old_text text = (ids : List ℕ) × (first : ℕ) × (port : UdpValue) × (clock : ℕ) × SteadyBegins SystemShows first
+    × ScansOver UdpDoes (SteadyTells SystemShows) plan ids layout any (record { addr = bind; failures = 0 }) first old_text port clock text

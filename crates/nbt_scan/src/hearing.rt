@@ -2,11 +2,13 @@
 
 ghost use Rattle.std.specs.Prelude.{◌≡◌, ◌≢◌, Ok, Err, OnOk, length};
 ghost use Rattle.nbt_port.specs.PortCalls.{receiving, CountsFailure};
-ghost use Rattle.nbt_scan.specs.Plans.{AreAscending};
+ghost use Rattle.nbt_scan.specs.Plans.{IsPlan};
 ghost use Rattle.nbt_scan.specs.Scanning.{Hears};
 ghost use Rattle.nbt_scan.specs.Inner.Steps.{reply_in};
 
 use crate::addresses::place_of;
+use crate::plan::Plan;
+use crate::progress::Progress;
 use crate::replied::Replied;
 use crate::status::status_in;
 use arrayvec::ArrayVec;
@@ -38,29 +40,38 @@ pub fn receive<P: Port>(
     port.receive_now(octets)
 }
 
-/// Takes a datagram, if one came: the first reply of this id from each address of the list counts.
+/// Takes a datagram, if one came: the first reply of each address of the list counts, from the port that was asked, by the id of that
+/// address, and not before it was asked.
 pub fn take_from<'a>(
-    ips: &[u32],
-    id: u16,
+    plan: &Plan,
+    ids: &[u16],
+    progress: Progress,
     from: Option<Route>,
     octets: &'a [u8],
     replied: &mut Replied,
 ) -> Option<Heard<'a>>
-    requires ascending { AreAscending ips.now }
-    requires flags { length replied.old ≡ length ips.now }
-    ensures hears { Hears ips.now id replied.old (receiving (Ok from) octets.now) (reply_in result) replied.new }
+    requires plan { IsPlan plan.now }
+    requires ids { length ids.now ≡ length plan.now.ips.items }
+    requires flags { length replied.old ≡ length plan.now.ips.items }
+    ensures hears { Hears plan.now ids.now progress replied.old (receiving (Ok from) octets.now) (reply_in result) replied.new }
     ensures flags { length replied.new ≡ length replied.old }
 {
     let Some(from) = from else {
         return None;
     };
-    let Some(place) = place_of(ips, from.peer.ip) else {
+    if from.peer.port != plan.port {
+        return None;
+    }
+    let Some(place) = place_of(plan.ips.as_slice(), from.peer.ip) else {
         return None;
     };
+    if !progress.has_passed(plan, place) {
+        return None;
+    }
     if replied.has(place) {
         return None;
     }
-    let Some(status) = status_in(octets, id) else {
+    let Some(status) = status_in(octets, ids[place]) else {
         return None;
     };
     replied.mark(place);

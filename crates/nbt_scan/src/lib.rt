@@ -17,6 +17,7 @@ mod form;
 mod hearing;
 mod host;
 mod hosts_line;
+mod ids;
 mod json;
 pub mod laws;
 mod lines;

@@ -1,8 +1,8 @@
 //! How far a scan has come, and what it does at a moment.
 
-ghost use Rattle.std.specs.Prelude.{◌≡◌, ◌≢◌, ◌<◌, ◌^◌, length};
+ghost use Rattle.std.specs.Prelude.{◌≡◌, ◌≢◌, ◌↔◌, ◌<◌, ◌^◌, IsTrue, length};
 ghost use Rattle.nbt_scan.specs.Plans.{IsPlan};
-ghost use Rattle.nbt_scan.specs.Progressing.{begun, due_at, step_at, past, again};
+ghost use Rattle.nbt_scan.specs.Progressing.{WasPassed, begun, due_at, step_at, past, again};
 
 use crate::plan::Plan;
 use nbt_lease::Moment;
@@ -90,6 +90,13 @@ impl Progress {
             return Step::Wait;
         }
         Step::Ask
+    }
+
+    /// Whether it passed the address at this place, in this pass or in one before it.
+    pub fn has_passed(&self, plan: &Plan, place: usize) -> bool
+        ensures { IsTrue result ↔ WasPassed plan.now self.now place }
+    {
+        place < self.place || u64::from(self.left) + 1 < u64::from(plan.tries)
     }
 
     /// It passed an address.

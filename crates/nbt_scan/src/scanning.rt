@@ -24,7 +24,7 @@ pub const TURNS_MOST: u64 = 1 << 40;
 
 /// Asks the addresses of a plan. Turn after turn the clock is read; the request goes to the next address, if it is due and hasn't replied;
 /// and the port receives once. Behind the last address, `wait` milliseconds after it was passed, the next pass begins. The first node
-/// status response of this id from each address counts, whatever its port: it is printed, or kept. It is over where all have replied, or the wait of
+/// status response from each address that was asked counts, by its own id and from the port that was asked: it is printed, or kept. It is over where all have replied, or the wait of
 /// the last pass is over. A request that the port fails to send is lost. Refused
 /// with `Device` at the first receive that fails; with `Output` where a line can't be written;
 /// with `Memory` where it is out of memory. `meter` says in `errors` how far it is; a line that is printed has the place of its own.
@@ -32,8 +32,7 @@ pub fn scan_all<P: Port, C: Clock, W: Write, E: Write>(
     port: &mut P,
     clock: &mut C,
     plan: &Plan,
-    id: u16,
-    request: &[u8],
+    ids: &[u16],
     layout: Layout,
     scan: &mut Scan,
     kept: &mut Vec<Kept>,
@@ -42,8 +41,9 @@ pub fn scan_all<P: Port, C: Clock, W: Write, E: Write>(
     errors: &mut E,
 ) -> Result<(), Fault>
     requires plan { IsPlan plan.now }
+    requires ids { length ids.now ≡ length plan.now.ips.items }
     requires flags { length scan.old.replied ≡ length plan.now.ips.items }
-    ensures ok { OnOk result (Scans P.does C.tells plan.now id request.now layout
+    ensures ok { OnOk result (Scans P.does C.tells plan.now ids.now layout
         (record { clock = clock.old; here = record { port = port.old; scan = scan.old; sheet = record { kept = kept.old.items; text = W.contents writer.old } } })
         (record { clock = clock.new; here = record { port = port.new; scan = scan.new; sheet = record { kept = kept.new.items; text = W.contents writer.new } } })) }
     // It is `Device` only where a call of the port failed.
@@ -57,7 +57,7 @@ pub fn scan_all<P: Port, C: Clock, W: Write, E: Write>(
         }
         meter.say(plan, scan, now, errors);
         turn(
-            port, plan, id, request, layout, now, scan, kept, writer, meter, errors,
+            port, plan, ids, layout, now, scan, kept, writer, meter, errors,
         )?;
     }
     Ok(())
@@ -67,8 +67,7 @@ pub fn scan_all<P: Port, C: Clock, W: Write, E: Write>(
 fn turn<P: Port, W: Write, E: Write>(
     port: &mut P,
     plan: &Plan,
-    id: u16,
-    request: &[u8],
+    ids: &[u16],
     layout: Layout,
     now: Moment,
     scan: &mut Scan,
@@ -78,8 +77,9 @@ fn turn<P: Port, W: Write, E: Write>(
     errors: &mut E,
 ) -> Result<(), Fault>
     requires plan { IsPlan plan.now }
+    requires ids { length ids.now ≡ length plan.now.ips.items }
     requires flags { length scan.old.replied ≡ length plan.now.ips.items }
-    ensures ok { OnOk result (Went P.does plan.now id request.now layout now
+    ensures ok { OnOk result (Went P.does plan.now ids.now layout now
         (record { port = port.old; scan = scan.old; sheet = record { kept = kept.old.items; text = W.contents writer.old } })
         (record { port = port.new; scan = scan.new; sheet = record { kept = kept.new.items; text = W.contents writer.new } })) }
     ensures flags { length scan.new.replied ≡ length scan.old.replied }
@@ -87,12 +87,12 @@ fn turn<P: Port, W: Write, E: Write>(
     ensures least { P.failures port.old ≤ P.failures port.new }
 {
     let step = scan.progress.step_at(plan, now);
-    act(port, step, plan, request, now, scan);
+    act(port, step, plan, ids, now, scan);
     hear(
         port,
         waits(step),
         plan,
-        id,
+        ids,
         layout,
         scan,
         kept,
@@ -114,7 +114,7 @@ fn hear<P: Port, W: Write, E: Write>(
     port: &mut P,
     waits: bool,
     plan: &Plan,
-    id: u16,
+    ids: &[u16],
     layout: Layout,
     scan: &mut Scan,
     kept: &mut Vec<Kept>,
@@ -123,8 +123,9 @@ fn hear<P: Port, W: Write, E: Write>(
     errors: &mut E,
 ) -> Result<(), Fault>
     requires plan { IsPlan plan.now }
+    requires ids { length ids.now ≡ length plan.now.ips.items }
     requires flags { length scan.old.replied ≡ length plan.now.ips.items }
-    ensures ok { OnOk result (WasHeard P.does plan.now id layout
+    ensures ok { OnOk result (WasHeard P.does plan.now ids.now layout
         (record { port = port.old; scan = scan.old; sheet = record { kept = kept.old.items; text = W.contents writer.old } })
         (record { port = port.new; scan = scan.new; sheet = record { kept = kept.new.items; text = W.contents writer.new } })) }
     ensures flags { length scan.new.replied ≡ length scan.old.replied }
@@ -133,8 +134,9 @@ fn hear<P: Port, W: Write, E: Write>(
 {
     let mut octets = ArrayVec::new();
     let from = receive(port, waits, &mut octets)?;
+    let progress = scan.progress;
     let replied = &mut scan.replied;
-    match take_from(plan.ips.as_slice(), id, from, octets.as_slice(), replied) {
+    match take_from(plan, ids, progress, from, octets.as_slice(), replied) {
         Some(heard) => {
             meter.hide(errors);
             tell(layout, &heard, kept, writer)

@@ -1,5 +1,5 @@
 -- What was left out of a list, and the last time of changes.
-use Rattle.std.proofs.Common.{◌≡◌, ℕ, ◌≤◌, length, Bool, List, [], ◌∷◌, ◌++◌, map, refl, subst, ⊎_elim, arith}
+use Rattle.std.proofs.Common.{◌≡◌, ℕ, ◌≤◌, length, Bool, List, [], ◌∷◌, ◌++◌, refl, ⊎_elim, arith}
 use Rattle.std.specs.Prelude.{max, filter}
 use Rattle.std.proofs.Math.Nat.{le-max_left, le-max_right}
 use Rattle.nbt_lease.proofs.Common.{cases_Bool}
@@ -27,51 +27,11 @@ out_behind _ _ zs nothing = none_left_out zs
 out_behind _ _ zs (not_this x xs ys l) = not_this x (xs ++ zs) (ys ++ zs) (out_behind xs ys zs l)
 out_behind _ _ zs (this y xs ys l) = this y (xs ++ zs) (ys ++ zs) (out_behind xs ys zs l)
 
--- the first part of what is left
-front_of : {A : Type 0} (xs zs all ys : List A) → all ≡ xs ++ zs → LeavesOut all ys → LeavesOut xs ys
-front_of [] zs all ys is l = all_left_out ys
-front_of (x ∷ xs) zs _ _ is nothing = absurd cc
-front_of {A = A} (x ∷ xs) zs _ _ is (not_this z us ys l) =
-    let same : x ≡ z = cc in
-    let rest : us ≡ xs ++ zs = cc in
-    subst (λ (w : A). LeavesOut (x ∷ xs) (w ∷ ys)) same (not_this x xs ys (front_of xs zs us ys rest l))
-front_of (x ∷ xs) zs all _ is (this y _ ys l) = this y (x ∷ xs) ys (front_of (x ∷ xs) zs all ys is l)
-
-pub out_front : {A : Type 0} (xs zs ys : List A) → LeavesOut (xs ++ zs) ys → LeavesOut xs ys
-out_front xs zs ys l = front_of xs zs (xs ++ zs) ys refl l
-
--- what passes a test
-pub out_filtered : {A : Type 0} (p : A → Bool) (xs : List A) → LeavesOut (filter p xs) xs
-out_filtered p [] = nothing
-out_filtered p (x ∷ xs) =
-    ⊎_elim
-    (λ is. rw is (not_this x (filter p xs) xs (out_filtered p xs)))
-    (λ is. rw is (this x (filter p xs) xs (out_filtered p xs)))
-    (cases_Bool (p x))
-
-pub out_mapped : {A B : Type 0} (f : A → B) (xs ys : List A) → LeavesOut xs ys → LeavesOut (map f xs) (map f ys)
-out_mapped f _ _ nothing = nothing
-out_mapped f _ _ (not_this x xs ys l) = not_this (f x) (map f xs) (map f ys) (out_mapped f xs ys l)
-out_mapped f _ _ (this y xs ys l) = this (f y) (map f xs) (map f ys) (out_mapped f xs ys l)
-
--- what stands before both
-pub out_before : {A : Type 0} (zs xs ys : List A) → LeavesOut xs ys → LeavesOut (zs ++ xs) (zs ++ ys)
-out_before [] xs ys l = l
-out_before (z ∷ zs) xs ys l = not_this z (zs ++ xs) (zs ++ ys) (out_before zs xs ys l)
-
--- one after the other
-twice_of : {A : Type 0} (xs all ys zs : List A) → all ≡ ys → LeavesOut xs all → LeavesOut ys zs → LeavesOut xs zs
-twice_of xs all _ _ is l nothing = subst (LeavesOut xs) is l
-twice_of xs all _ _ is l (this z ys zs m) = this z xs zs (twice_of xs all ys zs is l m)
-twice_of _ _ _ _ is nothing (not_this z ys zs m) = absurd cc
-twice_of {A = A} _ _ _ _ is (not_this x us vs l) (not_this z ys zs m) =
-    let same : x ≡ z = cc in
-    let rest : vs ≡ ys = cc in
-    subst (λ (w : A). LeavesOut (x ∷ us) (w ∷ zs)) same (not_this x us zs (twice_of us vs ys zs rest l m))
-twice_of xs _ _ _ is (this y _ vs l) (not_this z ys zs m) = let rest : vs ≡ ys = cc in this z xs zs (twice_of xs vs ys zs rest l m)
-
-pub out_twice : {A : Type 0} (xs ys zs : List A) → LeavesOut xs ys → LeavesOut ys zs → LeavesOut xs zs
-out_twice xs ys zs l m = twice_of xs ys ys zs refl l m
+-- what stands behind what it was left out of
+pub out_on : {A : Type 0} (xs ys zs : List A) → LeavesOut xs ys → LeavesOut xs (ys ++ zs)
+out_on _ _ zs nothing = all_left_out zs
+out_on _ _ zs (not_this x xs ys l) = not_this x xs (ys ++ zs) (out_on xs ys zs l)
+out_on _ _ zs (this y xs ys l) = this y xs (ys ++ zs) (out_on xs ys zs l)
 
 pub fewer : {A : Type 0} (p : A → Bool) (xs : List A) → length (filter p xs) ≤ length xs
 fewer p [] = omega arith

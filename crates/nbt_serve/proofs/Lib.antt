@@ -14,8 +14,11 @@ pub mod Kept
 pub mod Told
 -- a server that resumes with what was kept
 pub mod Resumed
--- what waits leaves, and what a datagram makes of a server and of what waits
+-- which name a request was about, and for which one a query asked
+mod Named
+-- what waits leaves, what becomes of a client's share, and what a datagram makes of a server and of what waits
 mod Never
+mod Shares
 mod Leaving
 mod Taking
 mod Passed
@@ -23,8 +26,11 @@ mod Passed
 mod Looked
 -- what is kept where a server's live leases are written in place of all
 mod Renewed
--- what was left out of a list, and the last time of changes
+-- what was left out of a list, items of one in any order, and the last time of changes
 mod Left
+mod Among
+-- a query, and what else would have answered it alike
+mod Asked
 -- what a crash leaves, call by call, and of whole runs
 mod Crashes
 mod Runs

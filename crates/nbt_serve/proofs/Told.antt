@@ -28,7 +28,7 @@ use Rattle.nbt_server.specs.declared.outcome.Outcome.TheVariants as did
 use Rattle.nbt_store.specs.declared.change.Change.{Change}
 use Rattle.nbt_store.specs.declared.change.Change.TheVariants.{Began, Moved, Released as Gone}
 use Rattle.nbt_store.specs.Changes.{without, with_end, after, at_of, Stands}
-use Rattle.nbt_serve.specs.Changing.{IsKept, after_any, changes_leases, IsChange}
+use Rattle.nbt_serve.specs.Changing.{IsKept, after_any, changed_name, changes_leases, name_of, IsChange}
 use Rattle.nbt_serve.specs.Inner.Telling.{lease_of, Tells}
 use Rattle.nbt_serve.proofs.Kept.{Among, among, began_live, began_apart, released_live, moved_live, moved_apart, apart_filtered, live_later}
 
@@ -207,6 +207,22 @@ time_told now leases (did.Silent name) (Some c) tells = absurd cc
 time_told now leases did.ForNodes (Some c) tells = absurd cc
 time_told now leases did.NoMessage (Some c) tells = absurd cc
 
+-- ---- it is about the request's name
+
+name_told : (now : ℕ) (leases : Leases) (outcome : Outcome) (change : Option Change) → Tells now leases outcome change → IfSome change (λ c. changed_name c ≡ name_of outcome)
+name_told now leases outcome None tells = tt
+name_told now leases (did.Granted claim seconds) (Some c) tells = let same : c ≡ Began claim.name (lease_of now claim seconds) now = cc in ap changed_name same
+name_told now leases (did.Renewed claim seconds) (Some c) tells = ap changed_name tells.5
+name_told now leases (did.Released claim) (Some c) tells = let same : c ≡ Gone claim.name claim.addr now = cc in ap changed_name same
+name_told now leases (did.Refused claim refusal) (Some c) tells = absurd cc
+name_told now leases (did.NotLeased claim) (Some c) tells = absurd cc
+name_told now leases (did.NotReleased claim refusal) (Some c) tells = absurd cc
+name_told now leases (did.Found name) (Some c) tells = absurd cc
+name_told now leases (did.NotFound name) (Some c) tells = absurd cc
+name_told now leases (did.Silent name) (Some c) tells = absurd cc
+name_told now leases did.ForNodes (Some c) tells = absurd cc
+name_told now leases did.NoMessage (Some c) tells = absurd cc
+
 -- ---- a change that moves or releases a lease has one
 
 any_in : (addr : ℕ) (before : List Lease) (lease : Lease) (behind : List Lease) → lease.addr ≡ addr → Any (λ (l : Lease). l.addr ≡ addr) (before ++ lease ∷ behind)
@@ -274,6 +290,7 @@ is_change outcome new change tells = record {
   keeps = λ old now ip octets out h. told old new now ip octets out outcome change h (tells_at now h.takes.last);
   some = λ old now ip octets out h. some_told old new now ip octets out outcome change h (tells_at now h.takes.last);
   time = time_told new.last (leases_at new.last new.table.rows) outcome change tells;
+  named = name_told new.last (leases_at new.last new.table.rows) outcome change tells;
   stands = λ old now ip octets out h. stands_told old new now ip octets out outcome change h (tells_at now h.takes.last);
 }
   where

@@ -18,9 +18,11 @@ use Rattle.nbt_serve.specs.Serving.{Turn, Turns}
 use Rattle.nbt_serve.specs.Changing.{IsKept}
 use Rattle.nbt_serve.specs.Devices.{DeviceCall, on_port, on_store}
 use Rattle.nbt_serve.specs.Waiting.{WaitingValue, durable_then}
+use Rattle.nbt_serve.specs.declared.waiting.Unsynced.{Unsynced}
 use Rattle.nbt_serve.specs.Turning.{Took, TakesAny}
-use Rattle.nbt_serve.specs.Runs.{Held, Seen, live_rows, Steps, takes_turn, port_fails, looks, renews, Ends, store_fails, look_fails, renewal_fails, Runs, goes_on, ends, calls_in, turn_of, turns_in, replies_in, stored_in, gone_in, last_after, last_left, Begins, LeavesOut, nothing, IsEarlier, NoReplyPrecedesItsChange, CrashLeavesAnEarlierServer, ServersGoByTurns}
-use Rattle.nbt_serve.proofs.Left.{out_front, last_from, stand_begun}
+use Rattle.nbt_serve.specs.Runs.{Held, Seen, live_rows, Steps, takes_turn, port_fails, looks, renews, Ends, store_fails, look_fails, renewal_fails, Runs, goes_on, ends, calls_in, turn_of, turns_in, replies_in, stored_in, gone_in, last_after, last_left, Begins, AreAmong, nothing, IsEarlier, NoReplyPrecedesItsChange, CrashLeavesAnEarlierServer, ServersGoByTurns}
+use Rattle.nbt_serve.proofs.Left.{last_from, stand_begun}
+use Rattle.nbt_serve.proofs.Among.{among_front}
 use Rattle.nbt_serve.proofs.Crashes.{Past, last_by, by_call, by_calls, datagrams, Along, Good, Goes, along_more, along-append, durable_good}
 use Rattle.nbt_serve.proofs.Runs.{gone_on, last_on_from, ran, store_failed, look_failed, crashed, sent_durable}
 use Rattle.nbt_serve.proofs.Renewed.{renewed_kept}
@@ -32,7 +34,7 @@ any_turn None old new takes = takes
 any_turn (Some t) old new takes = (new, takes.server, refl)
 
 step_turns : (seen : Seen) (old new : Held) → Steps old seen new → Chain Turns old.server (turn_of seen.took) new.server
-step_turns _ old _ (takes_turn life t calls readings server waiting takes passes) = (server, takes.server, refl)
+step_turns _ old _ (takes_turn life t ahead calls readings server waiting takes passes) = (server, takes.server, refl)
 step_turns _ old _ (port_fails life t calls readings server waiting takes fails) = any_turn t old.server server takes
 step_turns _ old _ (looks day at clear onward) = refl
 step_turns _ old _ (renews header clear onward) = refl
@@ -69,8 +71,8 @@ at_first kept last = record { kept = kept; last = last; gone = [] }
 
 begun_good : (kept : Kept) (last : ℕ) (old : Held) → Begins kept last old → Good old.server [] old.server old.waiting (at_first kept last)
 begun_good kept last old b =
-    durable_good old.server [] old.server old.waiting (at_first kept last) refl b.leases b.stand (subst (λ (w : WaitingValue). LeavesOut (datagrams w.replies) []) (sym b.clear) nothing) b.all
-    (subst (λ (u : Option ℕ). durable_then old.waiting.durable u ≤ last_of last kept.changes) (sym (ap (λ (w : WaitingValue). w.unsynced) b.clear)) b.durable) b.soon
+    durable_good old.server [] old.server old.waiting (at_first kept last) refl b.leases b.stand (subst (λ (w : WaitingValue). AreAmong (datagrams w.replies) []) (sym b.clear) tt) b.all
+    (subst (λ (u : Option Unsynced). durable_then old.waiting.durable u ≤ last_of last kept.changes) (sym (ap (λ (w : WaitingValue). w.unsynced) b.clear)) b.durable) b.soon
 
 steps_go : (kept : Kept) (last : ℕ) (old new : Held) (seen : List Seen) → Begins kept last old → Chain Steps old seen new → Goes old.server (turns_in seen) new.server new.waiting (at_first kept last) (calls_in seen)
 steps_go kept last old new seen b chain = ran old.server seen old new [] (at_first kept last) chain (begun_good kept last old b)
@@ -205,13 +207,18 @@ in_renewal kept last old mid seen header before behind left b chain onward (at_e
     by_kind time (as_new all same) = record {
       front = turns_in seen;
       back = [];
+      asked = [];
       server = mid.server;
       turns_are = sym (append-nil (turns_in seen));
-      run = g.good.run;
+      some = nothing;
+      answers = tt;
+      run = subst (λ (ts : List Turn). Chain Turns old.server ts mid.server) (sym (append-nil (turns_in seen))) g.good.run;
       leases = subst (λ (cs : List Change). IsKept (after_all cs no_leases) mid.server) (sym all) (renewed_kept mid.server (after_all (by_calls calls (at_first kept last)).kept.changes no_leases) header.last g.good.leases);
       stand = subst (λ (cs : List Change). AllStand Three cs no_leases) (sym all) (stand_begun header.last rows no_leases);
-      replies = out_front (gone_in calls) (datagrams mid.waiting.replies) (replies_in (turns_in seen))
-          (subst (λ (ds : List DatagramValue). LeavesOut (ds ++ datagrams mid.waiting.replies) (replies_in (turns_in seen))) (gone_by_is calls (at_first kept last)) g.good.replies);
+      replies =
+          subst (λ (ts : List Turn). AreAmong (gone_in calls) (replies_in ts)) (sym (append-nil (turns_in seen)))
+          (among_front (gone_in calls) (datagrams mid.waiting.replies) (replies_in (turns_in seen))
+          (subst (λ (ds : List DatagramValue). AreAmong (ds ++ datagrams mid.waiting.replies) (replies_in (turns_in seen))) (gone_by_is calls (at_first kept last)) g.good.replies));
       soon = let l = last_from time left in let s = g.good.soon in omega (arith, l, s, onward, same);
     }
 

@@ -6,6 +6,7 @@ pub mod Serving
 pub mod Changing
 pub mod Devices
 pub mod Waiting
+pub mod Sharing
 pub mod Turning
 pub mod Runs
 pub mod Looking

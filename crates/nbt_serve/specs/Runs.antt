@@ -1,6 +1,7 @@
 -- Whole runs of a server that keeps its leases, and what a crash leaves of them (our profile).
-use Rattle.std.specs.Prelude.{◌≡◌, ℕ, ◌+◌, ◌≤◌, List, [], ◌∷◌, ◌++◌, length, map, filter, Option, Some, None}
-use Rattle.std.specs.List.{flat_map}
+use Rattle.std.specs.Prelude.{◌≡◌, ℕ, ◌+◌, ◌≤◌, ◌⊎◌, ⊤, Bool, true, List, [], ◌∷◌, ◌++◌, length, map, filter, Option, Some, None, is_some}
+use Rattle.std.specs.List.{flat_map, AllByRecursion}
+use Rattle.nbt_name.specs.Wire.{NameValue}
 use Rattle.nbt_lease.specs.Lease.{Rows, is_live}
 use Rattle.nbt_port.specs.declared.port.Route.{Route}
 use Rattle.nbt_port.specs.Memory.{DatagramValue}
@@ -8,16 +9,18 @@ use Rattle.nbt_port.specs.PortCalls.{Chain, sent, send_failed}
 use Rattle.nbt_server.specs.Serving.{ServerValue}
 use Rattle.nbt_store.specs.declared.change.Change.{Change}
 use Rattle.nbt_store.specs.declared.header.Header.{Header}
+use Rattle.nbt_packet.specs.Message.{MessageValue}
+use Rattle.nbt_packet.specs.Text.{text}
 use Rattle.nbt_store.specs.declared.change.Change.TheVariants.{Looked}
 use Rattle.nbt_store.specs.Lines.{AllStand}
 use Rattle.nbt_store.specs.declared.form.Form.TheVariants.{Three}
 use Rattle.nbt_store.specs.Calls.{StoreCall, renewed, renew_failed, Kept, after_calls, MayLeaveAfter, first_changes, new_leases}
-use Rattle.nbt_store.specs.Changes.{after_all, no_leases, last_of}
+use Rattle.nbt_store.specs.Changes.{after_all, no_leases, last_of, MayLeave}
 use Rattle.nbt_serve.specs.Serving.{Turn, Turns}
 use Rattle.nbt_serve.specs.Changing.{IsKept}
 use Rattle.nbt_serve.specs.Devices.{DeviceCall, on_port, on_store}
 use Rattle.nbt_serve.specs.Waiting.{WaitingValue, none_waits, IsClear, with_line, dropped, lay_down, LineFails}
-use Rattle.nbt_serve.specs.Turning.{Took, Takes, TakesAny, reply_in, reach, Passes, Fails}
+use Rattle.nbt_serve.specs.Turning.{Took, Takes, TakesAny, reply_in, answered, asked_for, reach, Passes, Fails}
 use Rattle.nbt_serve.specs.declared.fault.KeepFault.TheVariants as fault
 
 -- ---- a run
@@ -39,7 +42,7 @@ live_rows server = filter (λ row. is_live server.last row.1) server.table.rows
 -- A step after which the server goes on: a turn, also one in which the port fails; or, where no reply waits, and at a moment that isn't
 -- before the durable time, a line of both clocks becomes durable, or its live leases are written in place of all that is kept.
 pub data Steps (old : Held) : Seen → Held → Type 0 where
-  takes_turn : (life : ℕ) (took : Took) (calls : List DeviceCall) (readings : List ℕ) (server : ServerValue) (waiting : WaitingValue) → Takes old.server took server → Passes life old.waiting took calls readings waiting
+  takes_turn : (life : ℕ) (took : Took) (ahead : Bool) (calls : List DeviceCall) (readings : List ℕ) (server : ServerValue) (waiting : WaitingValue) → Takes old.server took server → Passes life old.waiting took ahead calls readings waiting
       → Steps old (record { took = Some took; calls = calls }) (record { server = server; waiting = waiting })
   port_fails : (life : ℕ) (took : Option Took) (calls : List DeviceCall) (readings : List ℕ) (server : ServerValue) (waiting : WaitingValue) → TakesAny old.server took server → Fails life old.waiting took fault.Port calls readings waiting
       → Steps old (record { took = took; calls = calls }) (record { server = server; waiting = waiting })
@@ -117,24 +120,54 @@ pub data LeavesOut {A : Type 0} : List A → List A → Type 0 where
   not_this : (x : A) (xs ys : List A) → LeavesOut xs ys → LeavesOut (x ∷ xs) (x ∷ ys)
   this : (y : A) (xs ys : List A) → LeavesOut xs ys → LeavesOut xs (y ∷ ys)
 
--- The changes that are left have the live leases of the server after the first of these turns, whose time isn't more than 1,000 ms past
--- the last time of what is left; each lease that they move or release was there; and the replies that left are replies of those turns, in their order: none of another turn has left.
+-- The third list is the second without one of these.
+pub data TakesOne {A : Type 0} (x : A) : List A → List A → Type 0 where
+  here : (ys : List A) → TakesOne x (x ∷ ys) ys
+  there : (y : A) (ys zs : List A) → TakesOne x ys zs → TakesOne x (y ∷ ys) (y ∷ zs)
+
+-- The first list has items of the second, each once at most, in any order.
+abbrev pub AreAmong : {A : Type 0} → List A → List A → Type 0
+AreAmong [] ys = ⊤
+AreAmong {A} (x ∷ xs) ys = (zs : List A) × TakesOne x ys zs × AreAmong xs zs
+
+-- each is a query that was answered
+abbrev pub AreAnswers : List Turn → Type 0
+AreAnswers turns = AllByRecursion (λ turn. is_some (asked_for turn) ≡ true) turns
+
+-- The changes that are left have the live leases of the server after the first of these turns and after queries of those behind them. Its time isn't
+-- more than 1,000 ms past the last time of what is left. Each lease that they move or release was there. And the replies that left are replies of
+-- those first turns and of those queries: none of another turn has left.
 pub record IsEarlier (first : ServerValue) (turns : List Turn) (gone : List DatagramValue) (last : ℕ) (left : List Change) : Type 0 where
   pub front : List Turn
   pub back : List Turn
+  pub asked : List Turn
   pub server : ServerValue
   pub turns_are : turns ≡ front ++ back
-  pub run : Chain Turns first front server
+  pub some : LeavesOut asked back
+  pub answers : AreAnswers asked
+  pub run : Chain Turns first (front ++ asked) server
   pub leases : IsKept (after_all left no_leases) server
   pub stand : AllStand Three left no_leases
-  pub replies : LeavesOut gone (replies_in front)
+  pub replies : AreAmong gone (replies_in (front ++ asked))
   pub soon : server.last ≤ last_of last left + reach
 
--- Whenever a reply is sent, all changes that were appended before are durable.
+-- These octets answer a query for a name, and whatever a crash leaves of what is kept has all leases of that name.
+pub record AnswersOfDurable (kept : Kept) (octets : List ℕ) : Type 0 where
+  pub message : MessageValue
+  pub name : NameValue
+  pub octets_are : octets ≡ text message
+  pub answers : answered (Some message) ≡ Some name
+  pub durable : (left : List Change) → MayLeave kept.changes kept.durable left → after_all left no_leases name ≡ after_all kept.changes no_leases name
+
+-- A reply may leave: all changes are durable, or it answers a query of whose name all are.
+abbrev pub MayBeSent : Kept → (octets : List ℕ) → Type 0
+MayBeSent kept octets = (kept.durable ≡ length kept.changes) ⊎ AnswersOfDurable kept octets
+
+-- Whenever a reply is sent, it may leave.
 abbrev pub NoReplyPrecedesItsChange : Type 0
 NoReplyPrecedesItsChange = (kept : Kept) (last : ℕ) (old new : Held) (seen : List Seen) → Begins kept last old → Runs old seen new
     → (before behind : List DeviceCall) (to : Route) (octets : List ℕ) → calls_in seen ≡ before ++ on_port (sent to octets) ∷ behind
-    → (after_calls (stored_in before) kept).durable ≡ length (after_calls (stored_in before) kept).changes
+    → MayBeSent (after_calls (stored_in before) kept) octets
 
 -- Whatever a crash leaves after any of the calls, or within one that failed, is of an earlier server, whose turns have each
 -- reply that has left.

@@ -1,5 +1,6 @@
 -- Replies that wait until the changes that they rest on are durable (our profile).
-use Rattle.std.specs.Prelude.{◌≡◌, ℕ, ◌+◌, max, nat_le, List, [], ◌∷◌, ◌++◌, map, filter, Option, Some, None}
+use Rattle.std.specs.Prelude.{◌≡◌, ℕ, ◌+◌, ◌-◌, max, nat_le, List, [], ◌∷◌, ◌++◌, map, filter, Any, Option, Some, None}
+use Rattle.nbt_name.specs.Wire.{NameValue}
 use Rattle.nbt_port.specs.Memory.{DatagramValue}
 use Rattle.nbt_port.specs.PortCalls.{PortCall, sent}
 use Rattle.nbt_store.specs.declared.change.Change.{Change}
@@ -7,25 +8,44 @@ use Rattle.nbt_store.specs.Calls.{StoreCall, appended, append_failed, synced, sy
 use Rattle.nbt_store.specs.Changes.{at_of}
 use Rattle.nbt_serve.specs.Devices.{DeviceCall, on_port, on_store}
 use Rattle.nbt_serve.specs.declared.waiting.Reply.{Reply}
+use Rattle.nbt_serve.specs.declared.waiting.Unsynced.{Unsynced}
 
--- at so many replies they leave
+-- at so many replies they leave, and after so many datagrams behind a change
 abbrev pub batch : ℕ
 batch = 64
 
--- a reply, and when the request was read that it answers
+-- a reply, when the request was read that it answers, and which name that is about
 pub record ReplyValue : Type 0 where
   pub read : ℕ
+  pub about : Option NameValue
   pub datagram : DatagramValue
 
 abbrev pub value_of : Reply → ReplyValue
-value_of reply = record { read = reply.read; datagram = record { route = reply.to; octets = reply.octets.items } }
+value_of reply = record { read = reply.read; about = reply.about; datagram = record { route = reply.to; octets = reply.octets.items } }
 
--- The replies that wait, in the order of their datagrams; the time up to which all is durable; and the time of the last line, where
--- that one isn't durable yet.
+-- The replies that wait, in the order of their datagrams; the time up to which all is durable; and where there are lines that aren't
+-- durable yet, the time of the last, and how many datagrams more may come before they are made so.
 pub record WaitingValue : Type 0 where
   pub replies : List ReplyValue
   pub durable : ℕ
-  pub unsynced : Option ℕ
+  pub unsynced : Option Unsynced
+
+-- how many datagrams more may come before all is made durable
+abbrev pub more_of : Option Unsynced → ℕ
+more_of None = batch
+more_of (Some unsynced) = unsynced.more
+
+-- one datagram more came
+abbrev pub one_less : Option Unsynced → Option Unsynced
+one_less None = None
+one_less (Some unsynced) = Some (record unsynced { more = unsynced.more - 1 })
+
+abbrev pub counted : WaitingValue → WaitingValue
+counted waiting = record waiting { unsynced = one_less waiting.unsynced }
+
+-- a reply about a name waits
+abbrev pub IsAbout : NameValue → List ReplyValue → Type 0
+IsAbout name replies = Any (λ reply. reply.about ≡ Some name) replies
 
 -- no reply waits, and all is durable
 abbrev pub none_waits : (durable : ℕ) → WaitingValue
@@ -38,12 +58,12 @@ IsClear waiting = waiting ≡ none_waits waiting.durable
 
 -- a line is appended
 abbrev pub with_line : Change → WaitingValue → WaitingValue
-with_line change waiting = record waiting { unsynced = Some (at_of change) }
+with_line change waiting = record waiting { unsynced = Some (record { at = at_of change; more = more_of waiting.unsynced }) }
 
 -- all lines become durable: so is the greatest of their times
-abbrev pub durable_then : (durable : ℕ) → (unsynced : Option ℕ) → ℕ
+abbrev pub durable_then : (durable : ℕ) → (unsynced : Option Unsynced) → ℕ
 durable_then durable None = durable
-durable_then durable (Some at) = max durable at
+durable_then durable (Some unsynced) = max durable unsynced.at
 
 abbrev pub all_durable : WaitingValue → WaitingValue
 all_durable waiting = record waiting { durable = durable_then waiting.durable waiting.unsynced; unsynced = None }
@@ -66,9 +86,9 @@ pub data LineFails (change : Change) : List StoreCall → Type 0 where
 
 -- ---- what waits leaves
 
-abbrev pub syncs_of : (unsynced : Option ℕ) → List StoreCall
+abbrev pub syncs_of : Option Unsynced → List StoreCall
 syncs_of None = []
-syncs_of (Some at) = synced ∷ []
+syncs_of (Some unsynced) = synced ∷ []
 
 abbrev pub sends_of : List ReplyValue → List PortCall
 sends_of replies = map (λ reply. sent reply.datagram.route reply.datagram.octets) replies

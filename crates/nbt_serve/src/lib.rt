@@ -7,6 +7,7 @@
 //! 1002 section 4.2.2) by one octet of their flags.
 #![tactic(auto)]
 
+mod asking;
 mod changing;
 mod fault;
 pub mod laws;
@@ -14,6 +15,7 @@ mod looking;
 mod samba;
 mod samba_port;
 mod serving;
+mod share;
 mod turning;
 mod waiting;
 
@@ -23,5 +25,6 @@ pub use looking::{list_live, look_after};
 pub use samba::take_registration;
 pub use samba_port::SambaPort;
 pub use serving::{Counts, ServedTurn, serve_turn, serve_turns};
+pub use share::Share;
 pub use turning::keep_turn;
-pub use waiting::{BATCH, REACH, Reply, Waiting};
+pub use waiting::{BATCH, REACH, Reply, Sent, Unsynced, Waiting};

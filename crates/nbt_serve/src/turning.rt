@@ -8,13 +8,13 @@ ghost use Rattle.nbt_store.specs.declared.change.Change.{Change as ChangeValue};
 ghost use Rattle.nbt_serve.specs.Serving.{Turn, moments_in, IsLogged};
 ghost use Rattle.nbt_serve.specs.Changing.{IsChange};
 ghost use Rattle.nbt_serve.specs.Waiting.{batch, with_line, dropped};
-ghost use Rattle.nbt_serve.specs.Inner.Passing.{goes_to};
 ghost use Rattle.nbt_serve.specs.Inner.Taking.{HasTaken, FailsToTake};
 ghost use Rattle.nbt_serve.specs.Turning.{with_any, appends_of, KeepsTurn, BreaksKeeping};
 
 use crate::changing::{change_of, changes_leases};
 use crate::fault::KeepFault;
-use crate::waiting::Waiting;
+use crate::share::Share;
+use crate::waiting::{Sent, Waiting};
 use arrayvec::ArrayVec;
 use nbt_lease::Moment;
 use nbt_log::Entry;
@@ -23,34 +23,37 @@ use nbt_server::{Outcome, Server};
 use nbt_store::{Broken, Store};
 
 /// The server goes through one turn. It receives a datagram, and waits for it where no reply waits. Where one came, it reads the
-/// clock; where that is more than a second past the last durable time, the time becomes durable first, with all that waits for it.
-/// Then it handles the datagram at that time, has the store append what that changed, and the reply waits with those before it.
-/// Then all replies leave, where the turn has no reply, or all is durable, or 64 wait: changes that aren't durable first become
-/// so, the clock is read once more, and a reply is dropped whose request was read longer ago than LIFE. A reply before which none
-/// waits, in a turn in which the store does nothing, leaves as it is. The reply leaves by the route of its datagram, from the address
-/// that was asked. `entry` is what the server did then; `None` where nothing came, and where the datagram was lost as
-/// [`crate::serve_turns`] says. `octets` and `reply` are buffers of the turn. Returns the moment at which what waited left, if it did.
+/// clock. A request for a change is barred where its client has had its share of changes in this second of the clock, or memory was refused to count
+/// it: it is lost, before it costs a line. Every change counts, that of a renewal too; a request that changes nothing doesn't. Where the moment is
+/// more than a second past the last durable time, the time becomes durable first, with all that waits for it. Then it handles the datagram at that time, and has the store append what that changed. Its reply leaves ahead of those that wait where no
+/// line had to become durable before it, and none waits and all is durable, or it answers a query, and no reply about its name waits; else it
+/// waits with those before it. All that waits leaves where nothing came, or all is durable, or 64 wait, or 64 datagrams came from the
+/// first change on that isn't durable: changes that aren't durable first become so, the clock is read once more, and a reply is dropped whose
+/// request was read longer ago than LIFE. A reply leaves by the route of its datagram, from the address that was asked. `entry` is what the
+/// server did in this turn; `None` where nothing came, and where the datagram was barred, or lost as [`crate::serve_turns`] says. `octets` and `reply` are
+/// buffers of the turn. Returns whether the turn's reply went ahead, and the moment at which what waited left, if it did.
 ///
 /// Refused with `Port` at a receive that fails, and at a send that fails: that reply is lost, and those behind it still wait.
 /// Refused with `Store` at an append or a sync that fails: all replies are dropped, and the caller must end the server. `entry` may
-/// then be anything.
+/// then be anything, and so may the counts of `share`.
 pub fn keep_turn<P: Port, C: Clock, S: Store>(
     port: &mut P,
     clock: &mut C,
     store: &mut S,
     server: &mut Server,
+    share: &mut Share,
     waiting: &mut Waiting,
     octets: &mut ArrayVec<u8, 2048>,
     reply: &mut ArrayVec<u8, 576>,
     entry: &mut Option<Entry>,
-) -> Result<Option<Moment>, KeepFault>
+) -> Result<Sent, KeepFault>
     requires room { length waiting.old.replies < batch }
-    ensures ok { IfOk result (λ left. KeepsTurn P.does S.does C.tells
-        (record { port = port.old; store = store.old; clock = clock.old; server = server.old; waiting = waiting.old }) entry.new left
-        (record { port = port.new; store = store.new; clock = clock.new; server = server.new; waiting = waiting.new })) }
+    ensures ok { IfOk result (λ sent. KeepsTurn P.does S.does C.tells
+        (record { port = port.old; store = store.old; clock = clock.old; server = server.old; share = share.old; waiting = waiting.old }) entry.new sent
+        (record { port = port.new; store = store.new; clock = clock.new; server = server.new; share = share.new; waiting = waiting.new })) }
     ensures err { IfErr result (λ why. BreaksKeeping P.does S.does C.tells why
-        (record { port = port.old; store = store.old; clock = clock.old; server = server.old; waiting = waiting.old })
-        (record { port = port.new; store = store.new; clock = clock.new; server = server.new; waiting = waiting.new })) }
+        (record { port = port.old; store = store.old; clock = clock.old; server = server.old; share = share.old; waiting = waiting.old })
+        (record { port = port.new; store = store.new; clock = clock.new; server = server.new; share = share.new; waiting = waiting.new })) }
     ensures room { length waiting.new.replies < batch }
 {
     let came = receive(port, waiting.is_empty(), octets)?;
@@ -58,33 +61,16 @@ pub fn keep_turn<P: Port, C: Clock, S: Store>(
         clock,
         store,
         server,
+        share,
         waiting,
         came,
         octets.as_slice(),
         reply,
         entry,
     )?;
-    match waiting.pass(
-        goes_to(came, entry),
-        reply,
-        synced,
-        server,
-        port,
-        store,
-        clock,
-    ) {
-        Ok(left) => Ok(left),
+    match waiting.pass(came, entry, reply, synced, server, port, store, clock) {
+        Ok(sent) => Ok(sent),
         Err(why) => Err(why),
-    }
-}
-
-/// By which route the reply of a turn goes, if it has one, by what the server did: by that of the datagram that came.
-fn goes_to(came: Option<Route>, entry: &Option<Entry>) -> Option<Route>
-    ensures { result ≡ goes_to came entry.now }
-{
-    match entry {
-        Some(entry) if entry.outcome.has_reply() => came,
-        _ => None,
     }
 }
 
@@ -108,17 +94,20 @@ fn take_any<C: Clock, S: Store>(
     clock: &mut C,
     store: &mut S,
     server: &mut Server,
+    share: &mut Share,
     waiting: &mut Waiting,
     came: Option<Route>,
     octets: &[u8],
     reply: &mut ArrayVec<u8, 576>,
     entry: &mut Option<Entry>,
 ) -> Result<bool, Broken>
-    ensures ok { IfOk result (λ synced. HasTaken S.does C.tells store.old clock.old server.old waiting.old came octets.now entry.new reply.new.items synced store.new clock.new server.new waiting.new) }
-    ensures err { OnErr result ((from : RouteValue) × (came ≡ Some from) × FailsToTake S.does C.tells store.old clock.old server.old waiting.old from octets.now store.new clock.new server.new waiting.new) }
+    ensures ok { IfOk result (λ synced. HasTaken S.does C.tells store.old clock.old server.old share.old waiting.old came octets.now entry.new reply.new.items synced store.new clock.new server.new share.new waiting.new) }
+    ensures err { OnErr result ((from : RouteValue) × (came ≡ Some from) × FailsToTake S.does C.tells store.old clock.old server.old share.old waiting.old from octets.now store.new clock.new server.new waiting.new) }
 {
     match came {
-        Some(from) => take(clock, store, server, waiting, from, octets, reply, entry),
+        Some(from) => take(
+            clock, store, server, share, waiting, from, octets, reply, entry,
+        ),
         None => {
             *entry = None;
             Ok(false)
@@ -126,31 +115,39 @@ fn take_any<C: Clock, S: Store>(
     }
 }
 
-/// Takes a datagram: reads the clock, makes that time durable where it is more than a second past the last durable one, handles the
-/// datagram, and has the store append what that changed. `entry` is what the server did then; `None` where the datagram was lost. `reply`
+/// Takes a datagram: reads the clock, bars the datagram or makes that time durable where it is more than a second past the last durable one, handles the
+/// datagram, and has the store append what that changed. `entry` is what the server did then; `None` where the datagram was barred or lost. `reply`
 /// has the reply, if there is one. Returns whether the time became durable. Refused with `Broken` if the store fails: the replies are dropped.
 fn take<C: Clock, S: Store>(
     clock: &mut C,
     store: &mut S,
     server: &mut Server,
+    share: &mut Share,
     waiting: &mut Waiting,
     from: Route,
     octets: &[u8],
     reply: &mut ArrayVec<u8, 576>,
     entry: &mut Option<Entry>,
 ) -> Result<bool, Broken>
-    ensures ok { IfOk result (λ synced. HasTaken S.does C.tells store.old clock.old server.old waiting.old (Some from) octets.now entry.new reply.new.items synced store.new clock.new server.new waiting.new) }
-    ensures err { OnErr result (FailsToTake S.does C.tells store.old clock.old server.old waiting.old from octets.now store.new clock.new server.new waiting.new) }
+    ensures ok { IfOk result (λ synced. HasTaken S.does C.tells store.old clock.old server.old share.old waiting.old (Some from) octets.now entry.new reply.new.items synced store.new clock.new server.new share.new waiting.new) }
+    ensures err { OnErr result (FailsToTake S.does C.tells store.old clock.old server.old share.old waiting.old from octets.now store.new clock.new server.new waiting.new) }
 {
     let now = clock.now();
+    let admission = share.admit(now, from.peer.ip, octets);
+    if admission.is_barred() {
+        *entry = None;
+        return Ok(false);
+    }
     let synced = waiting.reach(store, now)?;
     match server.handle(now, from.peer, octets, reply) {
         Ok(outcome) => {
+            share.settle(admission, from.peer.ip, changes_leases(&outcome));
             append_change(store, waiting, server, &outcome)?;
             *entry = Some(Entry::of(from.peer, octets, outcome));
             Ok(synced)
         }
         Err(_) => {
+            share.settle(admission, from.peer.ip, false);
             *entry = None;
             Ok(synced)
         }

@@ -1,7 +1,8 @@
 //! Replies that wait until the changes that they rest on are durable.
 
-ghost use Rattle.std.specs.Prelude.{◌≡◌, ◌<◌, ◌≤◌, ◌+◌, ◌^◌, ◌↔◌, ◌||◌, ◌++◌, ◌∷◌, [], ℕ, List, Bool, true, false, not, nat_le, nat_lt, length, map, Some, is_some, IfOk, OnOk, OnErr, IfErr, IsTrue};
+ghost use Rattle.std.specs.Prelude.{◌≡◌, ◌<◌, ◌≤◌, ◌+◌, ◌-◌, ◌^◌, ◌↔◌, ◌||◌, ◌&&◌, ◌++◌, ◌∷◌, [], ℕ, List, Bool, true, false, not, nat_eq, nat_le, nat_lt, length, map, Any, Option, Some, is_some, IfOk, OnOk, OnErr, IfErr, IsTrue};
 ghost use Rattle.std.specs.List.{flat_map};
+ghost use Rattle.nbt_name.specs.Wire.{NameValue};
 ghost use Rattle.std.specs.Option.{option_to_list};
 ghost use Rattle.std.specs.VecDeque.{deque_capacity};
 ghost use Rattle.nbt_port.specs.PortCalls.{Chain, send_failed};
@@ -9,14 +10,17 @@ ghost use Rattle.nbt_port.specs.declared.port.Route.{Route as RouteValue};
 ghost use Rattle.nbt_store.specs.Calls.{StoreCall, appending, sync_failed};
 ghost use Rattle.nbt_store.specs.declared.change.Change.TheVariants.{Reached};
 ghost use Rattle.nbt_serve.specs.Devices.{DeviceCall, DeviceDoes};
-ghost use Rattle.nbt_serve.specs.Waiting.{ReplyValue, WaitingValue, batch, none_waits, IsClear, with_line, all_durable, dropped, lay_down, laid_down, LineFails, syncs_of, sends_of, timely, leaving, value_of};
-ghost use Rattle.nbt_serve.specs.Turning.{reach, reached, with_lines, behind, LeavingFails};
-ghost use Rattle.nbt_serve.specs.Inner.Passing.{is_due, Leaves, GoesAtOnce, PassesOn, PassingFails, reply_to};
+ghost use Rattle.nbt_serve.specs.Waiting.{ReplyValue, WaitingValue, batch, none_waits, more_of, counted, IsAbout, IsClear, with_line, all_durable, dropped, lay_down, laid_down, LineFails, syncs_of, sends_of, timely, leaving, value_of};
+ghost use Rattle.nbt_serve.specs.Turning.{is_any_reply, sent_ahead, reach, reached, with_lines, behind, leaves, LeavingFails};
+ghost use Rattle.nbt_serve.specs.Inner.Passing.{Leaves, GoesFirst, IsFree, PassesOn, PassingFails, goes_to, name_in_any, query_in, reply_to, with_held};
 ghost use Rattle.nbt_serve.specs.declared.fault.KeepFault.TheVariants as fault;
 
+use crate::asking::{name_in, query_in};
 use crate::fault::KeepFault;
 use arrayvec::ArrayVec;
 use nbt_lease::{Config, Moment};
+use nbt_log::Entry;
+use nbt_name::Name;
 use nbt_port::{Clock, Device, Port, Route};
 use nbt_server::Server;
 use nbt_store::{Broken, Change, Store};
@@ -24,7 +28,7 @@ use std::alloc::{AllocError, Global};
 use std::collections::VecDeque;
 use std::marker::Model;
 
-/// At so many replies that wait they leave (our profile).
+/// At so many replies that wait they leave, and after so many datagrams behind the first change that isn't durable (our profile).
 pub const BATCH: usize = 64;
 
 /// No datagram is handled more than so many milliseconds past the last durable time (our profile).
@@ -39,15 +43,36 @@ pub struct Reply {
     pub octets: ArrayVec<u8, 576>,
     /// When the request was read that it answers.
     pub read: Moment,
+    /// Which name that is about.
+    pub about: Option<Name>,
+}
+
+/// What is known of lines that aren't durable.
+#[derive(Clone, Copy, Debug, PartialEq, Eq)]
+pub struct Unsynced {
+    /// The time of the last one, in milliseconds.
+    pub at: u64,
+    /// How many datagrams more may come before they are made so.
+    pub more: usize,
+}
+
+/// What left in a turn.
+#[derive(Clone, Copy, Debug, PartialEq, Eq)]
+pub struct Sent {
+    /// Whether the turn's own reply went ahead of those that wait, or there was none and none waits.
+    pub ahead: bool,
+    /// At which moment what waited left, if it did.
+    pub left: Option<Moment>,
 }
 
 /// Replies that wait until the changes that they rest on are durable, in the order of their datagrams. A contract sees them, up to
-/// which time all is durable, and the time of the last line where that one isn't. Times are milliseconds of the server's clock.
+/// which time all is durable, and where there are lines that aren't, the time of the last, and how many datagrams more may come before they are.
+/// Times are milliseconds of the server's clock.
 #[derive(Drop)]
 pub struct Waiting {
     replies: VecDeque<Reply>,
     durable: u64,
-    unsynced: Option<u64>,
+    unsynced: Option<Unsynced>,
     ghost room: { batch ≤ deque_capacity replies },
 }
 
@@ -101,18 +126,46 @@ impl Waiting {
         self.replies.is_empty() && self.unsynced.is_none()
     }
 
-    /// Whether the reply of a turn leaves as it is: none waits, all is durable, and the turn had no sync.
-    fn goes_at_once(&self, synced: bool) -> bool
-        ensures { IsTrue result ↔ GoesAtOnce synced self.now }
+    /// Whether the reply of a turn, if there is one, leaves ahead of those that wait: no line had to become durable before it, and none
+    /// waits and all is durable, or it answers a query, and no reply about its name waits.
+    fn goes_first(&self, synced: bool, entry: &Option<Entry>) -> bool
+        ensures { IsTrue result ↔ GoesFirst synced (query_in entry.now) self.now }
     {
-        self.is_clear() && !synced
+        !synced && self.is_free(entry)
     }
 
-    /// Whether they leave though more may come: all is durable, or as many wait as may.
-    fn is_due(&self) -> bool
-        ensures { result ≡ (not (is_some self.now.unsynced) || nat_le batch (length self.now.replies)) }
+    /// Whether none waits and all is durable, or this is a query that was answered, and no reply about its name waits.
+    fn is_free(&self, entry: &Option<Entry>) -> bool
+        ensures { IsTrue result ↔ IsFree (query_in entry.now) self.now }
     {
-        self.unsynced.is_none() || self.replies.len() >= BATCH
+        if self.is_clear() {
+            return true;
+        }
+        match query_in(entry) {
+            Some(name) => !self.is_about(name),
+            None => false,
+        }
+    }
+
+    /// Whether a reply about this name waits.
+    fn is_about(&self, name: &Name) -> bool
+        ensures { IsTrue result ↔ IsAbout name.now self.now.replies }
+    {
+        is_any_about(&self.replies, name)
+    }
+
+    /// Whether something waits.
+    fn is_any(&self) -> bool
+        ensures { result ≡ (is_any_reply self.now.replies || is_some self.now.unsynced) }
+    {
+        !self.replies.is_empty() || self.unsynced.is_some()
+    }
+
+    /// Whether they leave though something came: all is durable, or as many wait as may, or no datagram more may come before all is.
+    fn is_due(&self) -> bool
+        ensures { result ≡ (not (is_some self.now.unsynced) || (nat_le batch (length self.now.replies) || nat_eq (more_of self.now.unsynced) 0)) }
+    {
+        self.unsynced.is_none() || self.replies.len() >= BATCH || self.more() == 0
     }
 
     /// Whether a moment is more than a second past the last durable time.
@@ -129,15 +182,48 @@ impl Waiting {
         self.durable = at.get();
     }
 
-    /// One more reply waits, if there is one, to a request that was read at this moment.
-    fn put_any(&mut self, to: Option<Route>, octets: &ArrayVec<u8, 576>, read: Moment)
+    /// One datagram more came, where a change isn't durable.
+    fn count(&mut self)
+        ensures { self.new ≡ counted self.old }
+    {
+        if let Some(unsynced) = self.unsynced {
+            self.unsynced = Some(Unsynced {
+                at: unsynced.at,
+                more: unsynced.more.saturating_sub(1),
+            });
+        }
+    }
+
+    /// One more reply waits, if there is one, to a request that was read at this moment, and was about this name.
+    fn put_any(
+        &mut self,
+        to: Option<Route>,
+        octets: &ArrayVec<u8, 576>,
+        read: Moment,
+        about: Option<Name>,
+    )
         requires room { length self.old.replies < batch }
-        ensures { self.new ≡ behind (reply_to read to octets.now.items) self.old }
+        ensures { self.new ≡ behind (reply_to read about to octets.now.items) self.old }
     {
         if let Some(to) = to {
             let octets = copy_of(octets);
-            let reply = Reply { to, octets, read };
+            let reply = Reply {
+                to,
+                octets,
+                read,
+                about,
+            };
             self.replies.push_back_reserved(reply);
+        }
+    }
+
+    /// How many datagrams more may come before all is made durable.
+    fn more(&self) -> usize
+        ensures { result ≡ more_of self.now.unsynced }
+    {
+        match self.unsynced {
+            Some(unsynced) => unsynced.more,
+            None => BATCH,
         }
     }
 
@@ -147,7 +233,10 @@ impl Waiting {
         ensures ok { OnOk result (self.new ≡ with_line change.now self.old) }
         ensures err { OnErr result (self.new ≡ dropped (with_line change.now self.old)) }
     {
-        self.unsynced = Some(change.at());
+        self.unsynced = Some(Unsynced {
+            at: change.at(),
+            more: self.more(),
+        });
         match store.append(change) {
             Ok(()) => Ok(()),
             Err(broken) => {
@@ -182,63 +271,90 @@ impl Waiting {
         Ok(true)
     }
 
-    /// The reply of a turn, if there is one, leaves or waits behind those that wait. All of them leave as [`Waiting::leave`] has it,
-    /// with the same refusals, where there is none, or all is durable, or as many wait as may. Where none waits, all is durable and
-    /// the turn had no sync, it is sent as it is, and never copied. Its request was read at the server's time. Returns at which moment
-    /// what waited left, if it did.
+    /// The reply of a turn, if there is one, leaves ahead of those that wait, or waits behind them: it goes ahead where the turn had no
+    /// sync, and none waits and all is durable, or it answers a query, and no reply about its name waits; then it is never copied. Its
+    /// request was read at the server's time. Then all that waits leaves as [`Waiting::leave`] has it, with the same refusals, where
+    /// something does, and nothing came in the turn, or all is durable, or as many wait as may, or no datagram more may come before all is.
+    /// Refused with `Port` at a reply that goes ahead too: it is lost.
     pub(crate) fn pass<P: Port, S: Store, C: Clock>(
         &mut self,
-        to: Option<Route>,
+        came: Option<Route>,
+        entry: &Option<Entry>,
         octets: &ArrayVec<u8, 576>,
         synced: bool,
         server: &Server,
         port: &mut P,
         store: &mut S,
         clock: &mut C,
-    ) -> Result<Option<Moment>, KeepFault>
+    ) -> Result<Sent, KeepFault>
         requires room { length self.old.replies < batch }
-        ensures ok { IfOk result (λ left. (calls : List DeviceCall) × (readings : List ℕ) × PassesOn server.now.table.config.life (not (is_some to)) synced (reply_to server.now.last to octets.now.items) self.old calls readings self.new
+        ensures ok { IfOk result (λ sent. (calls : List DeviceCall) × (readings : List ℕ)
+            × PassesOn server.now.table.config.life (not (is_some came)) synced (query_in entry.now) (reply_to server.now.last (name_in_any entry.now) (goes_to came entry.now) octets.now.items) self.old sent.ahead calls readings self.new
             × Chain (DeviceDoes P.does S.does) (record { port = port.old; store = store.old }) calls (record { port = port.new; store = store.new })
-            × Chain C.tells clock.old readings clock.new × (readings ≡ option_to_list left)) }
-        ensures err { IfErr result (λ why. (calls : List DeviceCall) × (readings : List ℕ) × PassingFails server.now.table.config.life (not (is_some to)) synced (reply_to server.now.last to octets.now.items) self.old why calls readings self.new
+            × Chain C.tells clock.old readings clock.new × (readings ≡ option_to_list sent.left)) }
+        ensures err { IfErr result (λ why. (calls : List DeviceCall) × (readings : List ℕ)
+            × PassingFails server.now.table.config.life (not (is_some came)) synced (query_in entry.now) (reply_to server.now.last (name_in_any entry.now) (goes_to came entry.now) octets.now.items) self.old why calls readings self.new
             × Chain (DeviceDoes P.does S.does) (record { port = port.old; store = store.old }) calls (record { port = port.new; store = store.new })
             × Chain C.tells clock.old readings clock.new) }
     {
-        if self.goes_at_once(synced) {
-            return match send_any(to, octets.as_slice(), port) {
-                Ok(()) => Ok(None),
-                Err(why) => Err(why),
-            };
+        let to = goes_to(came, entry);
+        let ahead = self.goes_first(synced, entry);
+        self.send_or_hold(ahead, to, entry, octets, server.last(), port)?;
+        let limits = server.table().config();
+        match self.leave_where_due(came.is_none(), limits, port, store, clock) {
+            Ok(left) => Ok(Sent { ahead, left }),
+            Err(why) => Err(why),
         }
-        self.put_any(to, octets, server.last());
-        self.leave_where_due(to.is_none(), server.table().config(), port, store, clock)
     }
 
-    /// Whether they leave after a turn that has a reply or not.
-    fn is_to_leave(&self, unanswered: bool) -> bool
-        ensures { result ≡ is_due unanswered self.now }
+    /// The reply of a turn, if there is one, is sent ahead, or waits behind those that wait. Its request was read at this moment. Refused
+    /// with `Port` where it is sent and that fails: it is lost.
+    fn send_or_hold<P: Port>(
+        &mut self,
+        ahead: bool,
+        to: Option<Route>,
+        entry: &Option<Entry>,
+        octets: &ArrayVec<u8, 576>,
+        read: Moment,
+        port: &mut P,
+    ) -> Result<(), KeepFault>
+        requires room { length self.old.replies < batch }
+        ensures ok { OnOk result (Chain P.does port.old (sends_of (sent_ahead ahead (reply_to read (name_in_any entry.now) to octets.now.items))) port.new × (self.new ≡ with_held ahead (reply_to read (name_in_any entry.now) to octets.now.items) self.old)) }
+        ensures err { IfErr result (λ why. (lost : RouteValue) × (ahead ≡ true) × (to ≡ Some lost) × (why ≡ fault.Port) × P.does port.old (send_failed lost octets.now.items) port.new × (self.new ≡ counted self.old)) }
     {
-        unanswered || self.is_due()
+        self.count();
+        if ahead {
+            return send_any(to, octets.as_slice(), port);
+        }
+        self.put_any(to, octets, read, name_in(entry));
+        Ok(())
     }
 
-    /// All replies leave as [`Waiting::leave`] has it, with the same refusals, where the turn has no reply, or all is durable, or
-    /// as many wait as may. Returns at which moment, if they do.
+    /// Whether they leave after a turn in which nothing came, or something did.
+    fn is_to_leave(&self, idle: bool) -> bool
+        ensures { result ≡ leaves idle self.now }
+    {
+        self.is_any() && (idle || self.is_due())
+    }
+
+    /// All that waits leaves as [`Waiting::leave`] has it, with the same refusals, where something does, and nothing came in the turn, or
+    /// all is durable, or as many wait as may, or no datagram more may come before all is. Returns at which moment, if it does.
     fn leave_where_due<P: Port, S: Store, C: Clock>(
         &mut self,
-        unanswered: bool,
+        idle: bool,
         limits: Config,
         port: &mut P,
         store: &mut S,
         clock: &mut C,
     ) -> Result<Option<Moment>, KeepFault>
-        ensures ok { IfOk result (λ left. (calls : List DeviceCall) × (readings : List ℕ) × Leaves limits.life unanswered self.old calls readings self.new
+        ensures ok { IfOk result (λ left. (calls : List DeviceCall) × (readings : List ℕ) × Leaves limits.life idle self.old calls readings self.new
             × Chain (DeviceDoes P.does S.does) (record { port = port.old; store = store.old }) calls (record { port = port.new; store = store.new })
             × Chain C.tells clock.old readings clock.new × (readings ≡ option_to_list left)) }
-        ensures err { IfErr result (λ why. (calls : List DeviceCall) × (readings : List ℕ) × (is_due unanswered self.old ≡ true) × LeavingFails limits.life self.old why calls readings self.new
+        ensures err { IfErr result (λ why. (calls : List DeviceCall) × (readings : List ℕ) × (leaves idle self.old ≡ true) × LeavingFails limits.life self.old why calls readings self.new
             × Chain (DeviceDoes P.does S.does) (record { port = port.old; store = store.old }) calls (record { port = port.new; store = store.new })
             × Chain C.tells clock.old readings clock.new) }
     {
-        if !self.is_to_leave(unanswered) {
+        if !self.is_to_leave(idle) {
             return Ok(None);
         }
         match self.leave(limits, port, store, clock) {
@@ -293,12 +409,12 @@ impl Waiting {
         ensures ok { OnOk result (Chain S.does store.old (syncs_of self.old.unsynced) store.new × (self.new ≡ all_durable self.old)) }
         ensures err { OnErr result ((is_some self.old.unsynced ≡ true) × S.does store.old sync_failed store.new × (self.new ≡ dropped self.old)) }
     {
-        let Some(at) = self.unsynced else {
+        let Some(unsynced) = self.unsynced else {
             return Ok(());
         };
         match store.sync() {
             Ok(()) => {
-                self.durable = self.durable.max(at);
+                self.durable = self.durable.max(unsynced.at);
                 self.unsynced = None;
                 Ok(())
             }
@@ -319,9 +435,36 @@ fn copy_of(octets: &ArrayVec<u8, 576>) -> ArrayVec<u8, 576>
     copy
 }
 
+/// By which route the reply of a turn goes, if it has one, by what the server did: by that of the datagram that came.
+fn goes_to(came: Option<Route>, entry: &Option<Entry>) -> Option<Route>
+    ensures { result ≡ goes_to came entry.now }
+{
+    match entry {
+        Some(entry) if entry.outcome.has_reply() => came,
+        _ => None,
+    }
+}
+
+/// Whether one of these replies is about this name.
+fn is_any_about(replies: &VecDeque<Reply>, name: &Name) -> bool
+    ensures { IsTrue result ↔ Any (λ reply. reply.about ≡ Some name.now) replies.now.items }
+{
+    replies.iter().any(|reply| is_of(&reply.about, name))
+}
+
+/// Whether a request was about this name.
+fn is_of(about: &Option<Name>, name: &Name) -> bool
+    ensures { IsTrue result ↔ (about.now ≡ Some name.now) }
+{
+    match about {
+        Some(about) => *about == *name,
+        None => false,
+    }
+}
+
 /// Sends a reply, if there is one. Refused with `Port` where that fails: it is lost.
 fn send_any<P: Port>(to: Option<Route>, octets: &[u8], port: &mut P) -> Result<(), KeepFault>
-    ensures ok { OnOk result ((read : ℕ) → Chain P.does port.old (sends_of (reply_to read to octets.now)) port.new) }
+    ensures ok { OnOk result ((read : ℕ) (about : Option NameValue) → Chain P.does port.old (sends_of (reply_to read about to octets.now)) port.new) }
     ensures err { IfErr result (λ why. (lost : RouteValue) × (to ≡ Some lost) × (why ≡ fault.Port) × P.does port.old (send_failed lost octets.now) port.new) }
 {
     match to {

@@ -8,6 +8,7 @@ mod name;
 mod naming;
 mod rows;
 mod sentence;
+mod server;
 mod session;
 mod words;
 

@@ -1,5 +1,5 @@
 -- Whether a lease that was kept outlasts the silence of a server that begins anew (our profile).
-use Rattle.std.specs.Prelude.{◌≡◌, ◌↔◌, ◌⊎◌, ℕ, ◌+◌, ◌-◌, ◌<◌, ◌≤◌, Bool, true, false, IsTrue, List, Any, Some, None, Result, Ok, Err}
+use Rattle.std.specs.Prelude.{◌≡◌, ◌↔◌, ◌⊎◌, ℕ, ◌+◌, ◌-◌, ◌<◌, ◌≤◌, max, Bool, true, false, IsTrue, List, [], ◌∷◌, Any, Some, None, Result, Ok, Err}
 use Rattle.std.specs.Borrow.{Bor}
 use Rattle.nbt_lease.specs.Config.{ConfigValue, milliseconds}
 use Rattle.nbt_lease.specs.Lease.{Rows}
@@ -48,3 +48,25 @@ pub data OutlastsAs (f : Found) : Bool → Type 0 where
   nothing_there : f.kept ≡ None → OutlastsAs f false
   not_a_file : (octets : Bor (List ℕ)) (fault : Fault) (is : Bool) → f.kept ≡ Some octets → HasFault octets.now fault → MayHaveLost f octets.now is → OutlastsAs f is
   a_file : (octets : Bor (List ℕ)) (form : Form) (h : Header) (t : Times) (rows : Rows) (is : Bool) → f.kept ≡ Some octets → IsLoaded octets.now form h t rows → OutlastsWith f form h t rows is → OutlastsAs f is
+
+-- ---- for how long
+
+-- when all of these leases are over, and this time is
+abbrev pub latest : (time : ℕ) → Rows → ℕ
+latest time [] = time
+latest time (row ∷ rows) = latest (max time row.1.end) rows
+
+-- So many milliseconds from now on: a server that begins anew then speaks when all of the kept leases are over, and what was leased before the
+-- silence of the server that kept them. The clock goes on while nobody serves.
+pub record OutlastsFor (f : Found) (wait : ℕ) : Type 0 where
+  pub octets : Bor (List ℕ)
+  pub form : Form
+  pub header : Header
+  pub times : Times
+  pub rows : Rows
+  pub onward : Onward
+  pub kept : f.kept ≡ Some octets
+  pub loaded : IsLoaded octets.now form header times rows
+  pub clock : clock_now f form header times ≡ Ok onward
+  pub goes_on : onward.serves ≡ onward.reads
+  pub wait_is : wait ≡ latest (silent_until header) rows - speaks_anew f onward

@@ -11,7 +11,7 @@ use crate::disk::Disk;
 use crate::header::Header;
 use crate::store::{Broken, Store};
 use crate::syncs::Syncs;
-use crate::writing::{write_change, write_file};
+use crate::writing::{LINE_ROOM, write_change, write_file};
 use nbt_lease::Lease;
 use nbt_name::Name;
 use std::alloc::Global;
@@ -110,7 +110,7 @@ fn write_line<D: Disk>(alloc: Global, sum: u32, change: &Change, disk: &mut D) -
     ensures { (asked : List DiskCall) × Chain D.does disk.old asked disk.new × Asks (appending change.now result) sum asked (sum_in result) }
 {
     check_before(change, disk)?;
-    let mut line = String::new(alloc);
+    let mut line = String::with_capacity(alloc, LINE_ROOM)?;
     let next = write_change(alloc, sum, change, &mut line)?;
     disk.append(line.as_bytes())?;
     Ok(next)

@@ -1,10 +1,11 @@
 //! Whether a lease that was kept outlasts the silence of a server that begins anew.
 
-ghost use Rattle.std.specs.Prelude.{◌≡◌, ◌<◌, ◌≤◌, ◌↔◌, ◌⊎◌, Any, IsTrue, IfOk};
+ghost use Rattle.std.specs.Prelude.{◌≡◌, ◌-◌, ◌<◌, ◌≤◌, ◌↔◌, ◌⊎◌, Any, IsTrue, Ok, IfOk, IfSome};
 ghost use Rattle.nbt_store.specs.declared.fault.Fault.{Fault as FaultSeen};
+ghost use Rattle.nbt_store.specs.declared.silence.Onward.{Onward as OnwardSeen};
 ghost use Rattle.nbt_store.specs.declared.fault.ReadFault.TheVariants as read;
 ghost use Rattle.nbt_store.specs.Silence.{IsInTime};
-ghost use Rattle.nbt_store.specs.Outlasting.{silent_until, speaks_anew, with_limits, MayHaveLost, OutlastsAs, OutlastsWith};
+ghost use Rattle.nbt_store.specs.Outlasting.{clock_now, latest, silent_until, speaks_anew, with_limits, MayHaveLost, OutlastsAs, OutlastsFor, OutlastsWith};
 
 use crate::beginning::copy_of;
 use crate::fault::ReadFault;
@@ -34,6 +35,67 @@ pub fn outlasts(alloc: Global, found: &Found<'_>) -> Result<bool, AllocError>
         },
         None => Ok(false),
     }
+}
+
+/// In how many milliseconds a server that begins anew outlasts each lease of what is found, by the silence with which it begins then; `None`
+/// where that isn't known: nothing is kept, it can't be loaded, no clock goes on with it, or one that stood while nobody served, or its times
+/// are too great for a clock. Refused where it is out of memory.
+pub fn outlasts_for(alloc: Global, found: &Found<'_>) -> Result<Option<u64>, AllocError>
+    ensures { IfOk result (λ wait. IfSome wait (OutlastsFor found.now)) }
+{
+    let Some(octets) = found.kept else {
+        return Ok(None);
+    };
+    match load(alloc, octets) {
+        Ok(loaded) => Ok(wait_for(found, &loaded)),
+        Err(ReadFault::File(_)) => Ok(None),
+        Err(ReadFault::Memory) => Err(AllocError),
+    }
+}
+
+/// The same, with what was loaded.
+fn wait_for(found: &Found<'_>, loaded: &Loaded) -> Option<u64>
+    ensures { IfSome result (λ wait. (onward : OnwardSeen) × (clock_now found.now loaded.now.form loaded.now.header loaded.now.times ≡ Ok onward)
+        × (onward.serves ≡ onward.reads) × (wait ≡ latest (silent_until loaded.now.header) loaded.now.rows.items - speaks_anew found.now onward)) }
+{
+    let header = with_limits(found.config, &loaded.header);
+    let silent_after_boot = false;
+    let onward = why_silent(
+        loaded.form,
+        &header,
+        &loaded.times,
+        found.config,
+        &found.seen,
+        silent_after_boot,
+    )
+    .ok()?;
+    if onward.serves != onward.reads {
+        return None;
+    }
+    let speaks = speaks_anew(found, loaded, onward);
+    let first = silent_until(&loaded.header)?;
+    let over = latest(first, loaded.rows.as_slice());
+    Some(over.saturating_sub(speaks))
+}
+
+/// When the silence of the server that kept it was over; `None` where that is too late for a clock.
+fn silent_until(header: &Header) -> Option<u64>
+    ensures { IfSome result (λ time. time ≡ silent_until header.now) }
+{
+    header
+        .start
+        .checked_add(SECOND.checked_mul(header.longest)?)
+}
+
+/// When all of these leases are over, and this time is.
+fn latest(time: u64, rows: &[(Name, Lease)]) -> u64
+    ensures { result ≡ latest time rows.now }
+{
+    let mut over = time;
+    for row in rows {
+        over = over.max(row.1.end);
+    }
+    over
 }
 
 /// What is said of octets that aren't loaded for this reason.

@@ -41,6 +41,11 @@ pub trait Store {
     /// Why the first call that failed did, for people; `None` where none did.
     fn error(&self) -> Option<&io::Error>;
 
+    /// The folder in which it keeps them, for people; `None` where it has none.
+    fn folder(&self) -> Option<&str> {
+        None
+    }
+
     /// How often changes were made durable, and how long that took, where the store knows it.
     fn syncs(&self) -> Syncs {
         Syncs::NONE

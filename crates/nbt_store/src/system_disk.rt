@@ -24,8 +24,11 @@ const LOCK_MODE: u32 = 0o600;
 /// The bits of a mode that say who may do what.
 const MODES: u32 = 0o777;
 
+/// What is said of a file `lock` that says something else.
+pub const OTHER_LOCK: &str = "lock is another file";
+
 /// So many octets of it are read at most: more than it says.
-const LOCK_MOST: usize = 64;
+pub const LOCK_MOST: usize = 64;
 
 /// A file has fewer octets: this is more than any store writes (our profile).
 const FILE_MOST: u64 = 1 << 26;
@@ -132,6 +135,13 @@ impl<'a, R: Files<File = File>> SystemDisk<'a, R> {
     }
 }
 
+impl<'a, R: Files> SystemDisk<'a, R> {
+    /// The folder, as it was given.
+    pub fn folder(&self) -> &'a str {
+        self.folder
+    }
+}
+
 impl<R: Files> SystemDisk<'_, R> {
     /// Refused where the file `lock` of the folder isn't the one any more that is locked: the folder was moved, or another is in its
     /// place.
@@ -195,6 +205,11 @@ fn keep_to_owner(file: &File) -> io::Result<()> {
     file.set_permissions(Permissions::from_mode(LOCK_MODE))
 }
 
+/// Whether the file `lock` of a folder may say this: that it is a server's, or nothing yet.
+pub fn is_lock_text(text: &[u8]) -> bool {
+    text.is_empty() || text == LOCK_LINE
+}
+
 /// Has the file `lock` say what it is, where it is empty. Refused where it says something else: it is somebody's file.
 fn say_lock(file: &mut File) -> io::Result<()> {
     let mut octets = [0; LOCK_MOST];
@@ -203,11 +218,24 @@ fn say_lock(file: &mut File) -> io::Result<()> {
     if said.is_empty() {
         return file.write_all(LOCK_LINE);
     }
-    if said == LOCK_LINE {
+    if is_lock_text(said) {
         Ok(())
     } else {
-        Err(io::Error::other("lock is another file"))
+        Err(io::Error::other(OTHER_LOCK))
     }
+}
+
+/// A new file at this path, in place of one that a crash left there. No link is followed: where something stands there again meanwhile, it is
+/// refused.
+fn new_file<R: Files>(machine: &R, path: &str) -> io::Result<R::File> {
+    match fs::remove_file(machine, path) {
+        Err(error) if error.kind() != ErrorKind::NotFound => return Err(error),
+        _ => {}
+    }
+    let mut how = File::options();
+    how.write(true);
+    how.create_new(true);
+    how.open(machine, path)
 }
 
 /// Makes the names of a folder durable.
@@ -234,7 +262,7 @@ impl<'a, R: Files + time::Clock> Disk for SystemDisk<'a, R> {
             self.new_path.as_str(),
             "leases.new is no regular file",
         )?;
-        let mut file = File::create(self.machine, self.new_path.as_str())?;
+        let mut file = new_file(self.machine, self.new_path.as_str())?;
         file.write_all(octets)?;
         self.open = Some(file);
         self.unwritten.clear();

@@ -26,6 +26,9 @@ use nbt_name::{Addr, Kind, Name};
 use nbt_text::{end_line, write_address, write_hexadecimal, write_name};
 use std::alloc::{AllocError, Global};
 
+/// So many octets are reserved for a line: those of a name without a scope and more. A longer one takes more as it grows.
+pub const LINE_ROOM: usize = 192;
+
 /// Appends the line of a change behind one with this checksum, with its line feed. Returns its checksum. If out of memory, only a part
 /// may be appended.
 pub fn write_change(
@@ -36,7 +39,7 @@ pub fn write_change(
 ) -> Result<u32, AllocError>
     ensures { IfOk result (λ next. (line : List ℕ) × IsRecord Three sum line change.now next × IsLine line × (string_bytes out.new ≡ string_bytes out.old ++ one_line line)) }
 {
-    let mut body = String::new(alloc);
+    let mut body = String::with_capacity(alloc, LINE_ROOM)?;
     write_words(change, &mut body)?;
     write_sealed(sum, &body, out)
 }
@@ -52,7 +55,7 @@ fn write_row(
     ensures { IfOk result (λ next. (line : List ℕ) × IsRecord Three sum line (changes.Began row.now.0 row.now.1 at) next × IsLine line × (string_bytes out.new ≡ string_bytes out.old ++ one_line line)) }
 {
     let (name, lease) = row;
-    let mut body = String::new(alloc);
+    let mut body = String::with_capacity(alloc, LINE_ROOM)?;
     write_began(name, *lease, at, &mut body)?;
     write_sealed(sum, &body, out)
 }
@@ -243,7 +246,8 @@ fn put_number(number: u64, out: &mut String) -> Result<(), AllocError>
 fn push_number(number: u64, out: &mut String) -> Result<(), AllocError>
     ensures { OnOk result (string_bytes out.new ≡ string_bytes out.old ++ decimal number) }
 {
-    write!(out, "{number}")
+    let mut digits = itoa::Buffer::new();
+    out.push_str(digits.format(number))
 }
 
 /// Appends a space and a name.

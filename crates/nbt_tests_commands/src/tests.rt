@@ -9,6 +9,7 @@ mod ending;
 mod expect;
 mod failures;
 mod hosts;
+mod lists;
 mod long;
 mod lookups;
 mod looping;

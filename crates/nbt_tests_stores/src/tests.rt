@@ -21,6 +21,7 @@ mod outlasting;
 mod restarts;
 mod resuming;
 mod routes;
+mod sharing;
 mod stage;
 mod store;
 mod telling;

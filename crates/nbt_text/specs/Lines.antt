@@ -1,5 +1,5 @@
 -- The lines of an input, and the words of a line (our profile).
-use Rattle.std.specs.Prelude.{◌≡◌, ◌≢◌, ℕ, ◌<◌, ◌==◌, ◌⊎◌, not, List, [], ◌∷◌, ◌++◌, Ok, Some, filter, length, slice_get, slice_index, codes}
+use Rattle.std.specs.Prelude.{◌≡◌, ◌≢◌, ℕ, ◌<◌, ◌==◌, ◌⊎◌, ◌||◌, not, List, [], ◌∷◌, ◌++◌, Ok, Some, filter, length, slice_get, slice_index, codes}
 use Rattle.std.specs.Fmt.{decimal}
 use Rattle.std.specs.List.{slice_split}
 use Rattle.hex.specs.Hex.{decode_of}
@@ -26,6 +26,14 @@ words text = filter (λ word. not (length word == 0)) (slice_split (λ octet. oc
 -- spaces alone, or a remark
 abbrev pub IsPassedOver : List ℕ → Type 0
 IsPassedOver text = (slice_get text 0 ≡ Some 35) ⊎ (words text ≡ [])
+
+-- the fields of a line, between spaces and tabs
+abbrev pub fields : List ℕ → List (List ℕ)
+fields text = filter (λ field. not (length field == 0)) (slice_split (λ octet. (octet == 32) || (octet == 9)) text)
+
+-- spaces and tabs alone, or a remark
+abbrev pub HasNoField : List ℕ → Type 0
+HasNoField text = (slice_get text 0 ≡ Some 35) ⊎ (fields text ≡ [])
 
 -- HEX: the octets' digits, or `-` for no octets
 pub data SpellsOctets : List ℕ → List ℕ → Type 0 where

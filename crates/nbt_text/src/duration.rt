@@ -7,12 +7,16 @@ ghost use Rattle.nbt_text.specs.Times.{IsUnit, SpellsTime};
 
 use crate::number::{between, parse_number};
 
-/// The milliseconds of a second, and of a minute.
+/// The milliseconds of a second, of a minute, of an hour, and of a day.
 const SECOND: u64 = 1_000;
 
 const MINUTE: u64 = 60_000;
 
-/// Reads a time, as `5m`, `300s` or `1500ms`: a number in decimal digits, and its unit. In milliseconds, fewer than 2^64.
+const HOUR: u64 = 3_600_000;
+
+const DAY: u64 = 86_400_000;
+
+/// Reads a time, as `1500ms`, `300s`, `5m`, `2h` or `1d`: a number in decimal digits, and its unit. In milliseconds, fewer than 2^64.
 pub fn read_duration(text: &[u8]) -> Option<u64>
     ensures { (time : ℕ) → (result ≡ Some time) ↔ SpellsTime text.now time }
 {
@@ -33,7 +37,7 @@ pub fn duration_within(text: &str, least: u64, most: u64) -> Option<u64>
 }
 
 /// The digits that a text begins with, and the rest.
-fn digits_before(text: &[u8]) -> (&[u8], &[u8])
+pub(crate) fn digits_before(text: &[u8]) -> (&[u8], &[u8])
     ensures { IsCutAt IsNoDigit text.now result.0.now result.1.now }
 {
     let mut count = 0;
@@ -51,13 +55,15 @@ fn is_digit(octet: u8) -> bool
 }
 
 /// The milliseconds of a unit.
-fn unit_of(unit: &[u8]) -> Option<u64>
+pub(crate) fn unit_of(unit: &[u8]) -> Option<u64>
     ensures { (each : ℕ) → (result ≡ Some each) ↔ IsUnit unit.now each }
 {
     match unit {
         [b'm', b's'] => Some(1),
         [b's'] => Some(SECOND),
         [b'm'] => Some(MINUTE),
+        [b'h'] => Some(HOUR),
+        [b'd'] => Some(DAY),
         _ => None,
     }
 }

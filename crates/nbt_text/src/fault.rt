@@ -15,8 +15,8 @@ pub enum Fault {
     /// 2: more than 15 characters stand before the suffix; it is how many.
     #[error("{0} characters, at most 15")]
     Long(usize),
-    /// 3: at this place, counted from 0, stands an octet outside 0x21 to 0x7E.
-    #[error("octet {0} is no character from ! to ~; write hex: and 32 digits")]
+    /// 3: at this place, counted from 0, stands an octet outside 0x21 to 0x7E. The text counts from 1.
+    #[error("character {} is none from ! to ~; write hex: and 32 digits", .0.saturating_add(1))]
     Character(usize),
     /// 4: what follows the characters is no suffix: `#` and two hexadecimal digits, or these between `<` and `>`.
     #[error("a suffix is #20 or <20>, with two hexadecimal digits")]

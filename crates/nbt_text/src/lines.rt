@@ -2,7 +2,7 @@
 
 ghost use Rattle.std.specs.Prelude.{◌≡◌, ◌↔◌, ℕ, List, IsTrue, Some, IfOk, OnOk, MatchOption, slice_get, codes};
 ghost use Rattle.std.specs.String.{string_bytes};
-ghost use Rattle.nbt_text.specs.Lines.{IsPassedOver, SpellsOctets, lines, one_line, words};
+ghost use Rattle.nbt_text.specs.Lines.{HasNoField, IsPassedOver, SpellsOctets, fields, lines, one_line, words};
 ghost use Rattle.nbt_text.specs.Texts.{texts};
 
 use hex::FromHexError;
@@ -58,6 +58,31 @@ pub fn words_of(alloc: Global, line: &[u8]) -> Result<Vec<&[u8]>, AllocError>
 {
     line.split(|octet| *octet == b' ')
         .filter(|word| !word.is_empty())
+        .collect(alloc)
+}
+
+/// The fields of a line that people align, between spaces and tabs; `None` where it is passed over, since it is a remark, whose first octet
+/// is `#`, or has spaces and tabs alone.
+pub fn fields_said(alloc: Global, line: &[u8]) -> Result<Option<Vec<&[u8]>>, AllocError>
+    ensures { IfOk result (λ found. MatchOption found (HasNoField line.now)
+        (λ said. (¬ HasNoField line.now) × (texts said.items ≡ fields line.now))) }
+{
+    if is_remark(line) {
+        return Ok(None);
+    }
+    let fields = fields_of(alloc, line)?;
+    if fields.is_empty() {
+        return Ok(None);
+    }
+    Ok(Some(fields))
+}
+
+/// The fields of a line; none is empty.
+fn fields_of(alloc: Global, line: &[u8]) -> Result<Vec<&[u8]>, AllocError>
+    ensures { IfOk result (λ found. texts found.items ≡ fields line.now) }
+{
+    line.split(|octet| *octet == b' ' || *octet == b'\t')
+        .filter(|field| !field.is_empty())
         .collect(alloc)
 }
 

@@ -19,6 +19,9 @@ use nbt_port::{Fault, print};
 use nbt_scan::{Meter, scan_over};
 use std::alloc::{AllocError, Global};
 
+/// The id of a lookup, the first one of releases, and that of each address of a scan, which are random over a machine.
+const FIRST_ID: u16 = 1;
+
 /// Plays a command up to its end.
 pub fn play_command(stage: &Stage<'_>, alloc: Global, scene: &Scene) -> Result<(), AllocError> {
     match run(stage, alloc, scene) {
@@ -91,6 +94,7 @@ fn look_up(
         &mut ScenePort::new(stage),
         &mut Steady(stage),
         asked.bind,
+        FIRST_ID,
         &asked.question,
         asked.patience,
         &mut text,
@@ -113,7 +117,7 @@ fn hold(
     };
     let all = host_over(
         &mut ScenePort::new(stage),
-        WatchedClocks::new(clocks),
+        WatchedClocks::new(clocks, 0),
         alloc,
         host.bind,
         host,
@@ -137,6 +141,7 @@ fn release(
         alloc,
         host.bind,
         host.server,
+        FIRST_ID,
         host.wants.as_slice(),
         writer,
     )?;
@@ -153,11 +158,13 @@ fn scan(
 ) -> Result<u8, Fault>
     requires { IsPlan arguments.now.plan }
 {
+    let ids = vec![in alloc; FIRST_ID; arguments.plan.ips.len()]?;
     let any = scan_over(
         &mut ScenePort::new(stage),
         &mut Steady(stage),
         alloc,
         &arguments.plan,
+        ids.as_slice(),
         arguments.layout,
         writer,
         &mut Meter::new(arguments.progress),

@@ -10,7 +10,7 @@ use crate::scene::watch::{Day, Sleeper, Steady};
 use nbt_args::NbnsTexts;
 use nbt_front::{Desk, Front, FrontPort, read_fixed, read_network};
 use nbt_lease::{Config, Lease, Moment};
-use nbt_log::{Dates, Origin, Tally};
+use nbt_log::{Dates, FixedCapitals, Origin, Tally};
 use nbt_name::Name;
 use nbt_nbns::{Content, Journal, Keeper, Logger, State, keep_on};
 use nbt_port::{Fault, Port, until_of};
@@ -68,7 +68,8 @@ fn serve_with(
     errors: &mut ScenePaper<'_, '_>,
 ) -> Result<(), Fault> {
     let longest = server.table().config().longest();
-    let mut journal = journal_of(stage, alloc, texts, longest, rows.is_empty());
+    let fixed = front.fixed().capitals(alloc)?;
+    let mut journal = journal_of(stage, alloc, texts, longest, fixed, rows.is_empty());
     let mut rows = rows;
     front.fixed().retain_in_the_way(&mut rows);
     let mut desk = Desk::new(alloc, front, Steady(stage));
@@ -140,6 +141,7 @@ fn journal_of<'s, 'a>(
     alloc: Global,
     texts: &NbnsTexts<'_>,
     longest: u32,
+    fixed: FixedCapitals,
     starts: bool,
 ) -> SceneJournal<'s, 'a> {
     let dates = Dates {
@@ -153,6 +155,7 @@ fn journal_of<'s, 'a>(
         log: log_of(alloc, texts),
         leases: keeper_of(stage, alloc, texts.leases, Content::Leases),
         hosts: keeper_of(stage, alloc, texts.hosts, Content::Hosts),
+        fixed,
         stats: keeper_of(stage, alloc, texts.stats, Content::Stats),
         tally: Tally::new(),
         origin: Origin {

@@ -17,20 +17,20 @@ reply_in None = None
 reply_in (Some heard) = Some (reply_of heard)
 
 -- what was done at a moment; what was heard and told; and both
-abbrev pub Acted : {P : Type 0} → (P → PortCall → P → Type 0) → Plan → (request : List ℕ) → (now : ℕ) → Step → (old new : Scanning P) → Type 0
-Acted does plan request now step old new = (sending : List PortCall) × Acts does plan request now old step sending new
+abbrev pub Acted : {P : Type 0} → (P → PortCall → P → Type 0) → Plan → (ids : List ℕ) → (now : ℕ) → Step → (old new : Scanning P) → Type 0
+Acted does plan ids now step old new = (sending : List PortCall) × Acts does plan ids now old step sending new
 
-pub record WasHeard {P : Type 0} (does : P → PortCall → P → Type 0) (plan : Plan) (id : ℕ) (layout : Layout) (old new : Scanning P) : Type 0 where
+pub record WasHeard {P : Type 0} (does : P → PortCall → P → Type 0) (plan : Plan) (ids : List ℕ) (layout : Layout) (old new : Scanning P) : Type 0 where
   pub hearing : PortCall
   pub reply : Option Reply
   pub receives : does old.port hearing new.port
-  pub hears : Hears plan.ips.items id old.scan.replied hearing reply new.scan.replied
+  pub hears : Hears plan ids old.scan.progress old.scan.replied hearing reply new.scan.replied
   pub progress_stays : new.scan.progress ≡ old.scan.progress
   pub tells : TellsIf layout reply old.sheet new.sheet
 
-abbrev pub Went : {P : Type 0} → (P → PortCall → P → Type 0) → Plan → (id : ℕ) → (request : List ℕ) → Layout → (now : ℕ) → (old new : Scanning P) → Type 0
-Went does plan id request layout now old new = (turn : Turn) × (turn.now ≡ now) × Goes does plan id request layout old turn new
+abbrev pub Went : {P : Type 0} → (P → PortCall → P → Type 0) → Plan → (ids : List ℕ) → Layout → (now : ℕ) → (old new : Scanning P) → Type 0
+Went does plan ids layout now old new = (turn : Turn) × (turn.now ≡ now) × Goes does plan ids layout old turn new
 
 -- a number of turns that went by
-abbrev pub Passed : {P C : Type 0} → (P → PortCall → P → Type 0) → (C → ℕ → C → Type 0) → Plan → (id : ℕ) → (request : List ℕ) → Layout → (count : ℕ) → (old new : Timed P C) → Type 0
-Passed does tells plan id request layout count old new = (turns : List Turn) × Chain (Takes does tells plan id request layout) old turns new × (length turns ≡ count)
+abbrev pub Passed : {P C : Type 0} → (P → PortCall → P → Type 0) → (C → ℕ → C → Type 0) → Plan → (ids : List ℕ) → Layout → (count : ℕ) → (old new : Timed P C) → Type 0
+Passed does tells plan ids layout count old new = (turns : List Turn) × Chain (Takes does tells plan ids layout) old turns new × (length turns ≡ count)

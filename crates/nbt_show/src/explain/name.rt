@@ -3,6 +3,7 @@
 use crate::explain::naming::{write_named, write_type_and_class};
 use crate::explain::rows::write_rdata;
 use crate::explain::sentence::write_reason;
+use crate::explain::server::write_at_server;
 use crate::explain::words::{words_for, write_duration, write_flag};
 use crate::packet_text::write_word;
 use crate::rcode::rcode_words;
@@ -11,12 +12,13 @@ use nbt_text::end_line;
 use std::alloc::{AllocError, Global};
 
 /// The packet that the octets begin with in words: its id, OPCODE, flags, RCODE and counts; its question and records, with
-/// their names, types, classes and times, and what RDATA holds; and why it spells no message, where it spells none. Of octets
-/// that begin with no packet nothing (RFC 1002 section 4.2).
+/// their names, types, classes and times, and what RDATA holds; why it spells no message, where it spells none; and what
+/// `nbt nbns` makes of an overwrite and of OPCODE 15. Of octets that begin with no packet nothing (RFC 1002 section 4.2).
 pub fn explain_packet(alloc: Global, octets: &[u8]) -> Result<String, AllocError> {
     let mut text = String::new(alloc);
     if let Ok((packet, _)) = decode(octets) {
         write_packet(&packet, &mut text)?;
+        write_at_server(packet, &mut text)?;
     }
     Ok(text)
 }
@@ -35,9 +37,9 @@ const OPCODES: [(u16, &str); 7] = [
     (0, "Name query"),
     (5, "Registration"),
     (6, "Release"),
-    (7, "WACK"),
+    (7, "Wait for acknowledgment"),
     (8, "Refresh"),
-    (9, "Refresh"),
+    (9, "Refresh (alternate opcode)"),
     (15, "Multi-homed registration"),
 ];
 

@@ -4,6 +4,7 @@ use crate::explain::naming::write_in_brackets;
 use crate::explain::words::node_word;
 use crate::holders::{kind_of, kind_word};
 use crate::node_status::{write_name_flags, write_unit_line};
+use nbt_name::Kind;
 use nbt_packet::Record;
 use nbt_text::{suffix_words, write_entry_address, write_octets};
 use std::alloc::AllocError;
@@ -27,16 +28,29 @@ pub fn write_rdata(resource: &Record<'_>, out: &mut String) -> Result<(), AllocE
     }
 }
 
-/// Appends a line for each entry.
+/// Appends a line for each entry. Behind a group's address that is of no machine stands what it says.
 fn write_entries(rdata: &[u8], out: &mut String) -> Result<(), AllocError> {
     let (entries, _) = rdata.as_chunks::<6>();
     for entry in entries {
         out.push_str("Address: ")?;
         write_entry_address(entry, out)?;
         write_holder(entry[0], out)?;
+        write_in_brackets(nobody(entry), out)?;
         out.push_str("\n")?;
     }
     Ok(())
+}
+
+/// What the address of a group's entry says that is of no machine.
+fn nobody(entry: &[u8; 6]) -> &'static str {
+    let [flags, _, a, b, c, d] = *entry;
+    match (kind_of(flags), a, b, c, d) {
+        (Kind::Group, 255, 255, 255, 255) => {
+            "all machines: a server that keeps no members of the group"
+        }
+        (Kind::Group, 0, 0, 0, 0) => "no machine: it doesn't say a member's address",
+        _ => "",
+    }
 }
 
 /// Appends the type of node and the kind that the first octet of flags says, a comma before each.

@@ -9,11 +9,12 @@ use std::fs::File;
 use std::io;
 use std::net::Net;
 use std::process::Abort;
+use std::random::RandomSource;
 use std::rt::Files;
 use std::time::Clock;
 
 /// The status of a command of these words, and of one more if it isn't empty.
-pub fn status_of<R: Abort + AllocGlobal, M: Net + Clock + Files<File = File>>(
+pub fn status_of<R: Abort + AllocGlobal, M: Net + Clock + RandomSource + Files<File = File>>(
     rt: &R,
     machine: &M,
     line: &str,
@@ -46,7 +47,7 @@ pub fn expect_printed<R: Abort>(
 }
 
 /// The command, without input, ends with this status, and prints and says this. Each line that it prints is flushed before the next.
-pub fn expect_ending<R: Abort + AllocGlobal, M: Net + Clock + Files<File = File>>(
+pub fn expect_ending<R: Abort + AllocGlobal, M: Net + Clock + RandomSource + Files<File = File>>(
     rt: &R,
     machine: &M,
     about: &str,

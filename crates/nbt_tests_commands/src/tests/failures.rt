@@ -8,6 +8,7 @@ use std::io;
 use std::io::Read;
 use std::net::Net;
 use std::process::Abort;
+use std::random::RandomSource;
 use std::rt::Files;
 use std::time::Clock;
 
@@ -64,7 +65,7 @@ static LINES: [(&str, &[u8]); 5] = [
 /// A flush that fails, and a write, end the command, and what was written before stays: no `device` comes after it.
 fn expect_nothing_more<R>(rt: &R, line: &str, text: &[u8])
 where
-    R: Abort + AllocGlobal + Net + Clock + Files<File = File>,
+    R: Abort + AllocGlobal + Net + Clock + RandomSource + Files<File = File>,
 {
     let mut errors = LimitedWriter::new();
     let mut paper = LimitedWriter::stuck();

@@ -1,7 +1,7 @@
 //! What writers that wait for no reader hand on.
 
 use super::expect::{expect, expect_eq};
-use nbt_admin::{FirstLineWriter, LossyWriter};
+use nbt_admin::{FirstLineWriter, JournalWriter, Lines, LossyWriter};
 use std::alloc::Global;
 use std::io;
 use std::io::{ErrorKind, Write};
@@ -188,4 +188,125 @@ fn a_first_line_that_can_not_be_written_is_refused(rt: HostRuntime) {
     let closed = Err(ErrorKind::BrokenPipe);
     expect_eq(&rt, &"closed", &hand(&mut later, "one\n"), &closed);
     expect_eq(&rt, &"flush", &hand(&mut later, ""), &closed);
+}
+
+/// A line of the output, and what stands before it for a journal.
+static MARKED: [(&str, &str); 21] = [
+    (
+        "serving 127.0.0.1:137, silent for 300 s until 2026-11-24T09:17:03Z\n",
+        "<6>",
+    ),
+    (
+        "2026-11-24T09:12:03Z granted FILER#20 192.0.2.7 unique 300 s\n",
+        "<6>",
+    ),
+    (
+        "2026-11-24T09:12:03Z granted REFUSED#20 192.0.2.7 unique 300 s\n",
+        "<6>",
+    ),
+    (
+        "2026-11-24T09:12:03Z released FILER#20 192.0.2.7 unique\n",
+        "<6>",
+    ),
+    (
+        "2026-11-24T09:12:03Z malformed from 192.0.2.9:137: 12 octets\n",
+        "<6>",
+    ),
+    (
+        "2026-11-24T09:12:03Z refused FILER#20 192.0.2.8 unique from 192.0.2.8:137: not its own address (5)\n",
+        "<4>",
+    ),
+    (
+        "2026-11-24T09:12:03Z release refused FILER#20 192.0.2.8 unique from 192.0.2.8:137: not its own address (5)\n",
+        "<4>",
+    ),
+    ("2026-11-24T09:12:03Z .. 1200 more refused\n", "<4>"),
+    ("2026-11-24T09:12:03Z .. 1200 more release refused\n", "<4>"),
+    ("2026-11-24T09:12:03Z .. 1200 more granted\n", "<6>"),
+    (
+        ".. 312 lines dropped: the reader of the log was slow, or it could not be written\n",
+        "<4>",
+    ),
+    (
+        "2026-11-24T09:12:03Z refused FILER#20: held by another (6)\n",
+        "<4>",
+    ),
+    ("2026-11-24T09:12:03Z lost FILER#20\n", "<4>"),
+    ("2026-11-24T09:12:03Z lapsed FILER#20\n", "<4>"),
+    (
+        "2026-11-24T09:12:03Z give-back unconfirmed FILER#20\n",
+        "<4>",
+    ),
+    ("2026-11-24T09:12:03Z not held FILER#20\n", "<4>"),
+    (
+        "2026-11-24T09:12:03Z asks again for FILER#20 after 5 s, 10 s .. at most 5 min\n",
+        "<6>",
+    ),
+    ("device\n", "<3>"),
+    ("memory\n", "<3>"),
+    ("error: unexpected argument 'x' found\n", "<3>"),
+    ("\n", "<6>"),
+];
+
+/// Writes a line in two parts, which stands in the pipe with its mark.
+fn expect_marked<R: Abort + AllocGlobal>(rt: &R, lines: Lines, line: &str, mark: &str) {
+    let mut pipe = Pipe::full(rt.alloc());
+    pipe.room = 500;
+    let mut writer = JournalWriter::new(rt.alloc(), lines, pipe);
+    let (front, rest) = line.as_bytes().split_at(1.min(line.len().saturating_sub(1)));
+    let is_taken = writer.write_all(front).is_ok() && writer.write_all(rest).is_ok();
+    expect_eq(rt, &line, &is_taken, &true);
+    let expected = format!(in rt.alloc(); "{mark}{line}").expect(rt, "memory");
+    let got = writer.get_mut().text.as_slice();
+    expect_eq(rt, &line, &got, &expected.as_bytes());
+}
+
+#[test]
+fn lines_are_marked_for_a_journal(rt: HostRuntime) {
+    for (line, mark) in &MARKED {
+        expect_marked(&rt, Lines::Output, line, mark);
+        expect_marked(&rt, Lines::Errors, line, "<4>");
+    }
+}
+
+/// What is written for a journal, with how much room; how many octets are taken, or how they are refused; and all that it has then. Nothing
+/// written is a flush.
+static JOURNALED: [Handing; 8] = [
+    ("one", 100, Ok(3), ""),
+    (" line\ntwo\n", 100, Ok(6), "<4>one line\n"),
+    ("two\nthree\n", 3, Ok(4), "<4>one line\n<4>"),
+    (
+        "three\n",
+        2,
+        Err(ErrorKind::WouldBlock),
+        "<4>one line\n<4>tw",
+    ),
+    ("", 1, Ok(0), "<4>one line\n<4>two"),
+    ("", 0, Ok(0), "<4>one line\n<4>two"),
+    ("", 1, Ok(0), "<4>one line\n<4>two\n"),
+    ("four\n", 100, Ok(5), "<4>one line\n<4>two\n<4>four\n"),
+];
+
+#[test]
+fn lines_for_a_slow_journal_wait_whole(rt: HostRuntime) {
+    let alloc: Global = rt.alloc();
+    let mut lines = JournalWriter::new(alloc, Lines::Errors, Pipe::full(alloc));
+    for (text, room, taken, expected) in &JOURNALED {
+        lines.get_mut().room = *room;
+        let handed = if text.is_empty() {
+            lines.flush().map(|()| 0)
+        } else {
+            lines.write(text.as_bytes())
+        };
+        expect_eq(&rt, text, &handed.map_err(|error| error.kind()), taken);
+        let got = lines.get_mut().text.as_slice();
+        expect_eq(&rt, text, &got, &expected.as_bytes());
+    }
+    let other = lines.write(b"\xff\n").map_err(|error| error.kind());
+    expect_eq(
+        &rt,
+        &"not UTF-8",
+        &other.err(),
+        &Some(ErrorKind::InvalidData),
+    );
 }

@@ -7,6 +7,7 @@ use std::cell::Cell;
 use std::fs::{Metadata, OpenOptions};
 use std::io;
 use std::net::{Net, SocketAddr, TcpListener, TcpStream, UdpSocket};
+use std::random::RandomSource;
 use std::rt::Files;
 use std::time::{Clock, Duration};
 
@@ -27,15 +28,15 @@ pub const BOOT: u64 = 500_000;
 /// the time of day is set meanwhile, which the monotonic clock doesn't tell. At its `n`th reading the other end sends to `port` what is to be sent then. At the reading `breaks_at` the port
 /// breaks: its next call fails, and the first one after each sleep. After `well_after` sleeps it is well again, for the other
 /// end alone, which sends then what is to be sent at [`WELL`]; and it breaks again at the reading `breaks_again_at`. Where `port` is,
-/// whoever binds a UDP port is given that one. TCP, and strangers, are as `street` says. Where it has no memory, none of its sockets
-/// is bound or connected, and no file is opened. Its files are the host's.
+/// whoever binds a UDP port is given that one. TCP, and strangers, are as `street` says. Where it refuses something, none of its
+/// sockets is bound or connected, and no file is opened, for that reason. Its files are the host's.
 #[derive(Drop)]
 pub struct Machine<'a, N> {
     pub host: &'a N,
     pub port: &'a UdpSocket,
     pub other: &'a UdpSocket,
     pub street: &'a Street,
-    pub has_memory: bool,
+    pub refusal: Option<io::ErrorKind>,
     pub moments: &'static [u64],
     pub sends: &'static [(usize, &'static str)],
     pub breaks_at: usize,
@@ -59,7 +60,7 @@ impl<'a, N: Net<Stream = TcpStream, Listener = TcpListener>> Machine<'a, N> {
             port,
             other,
             street,
-            has_memory: true,
+            refusal: None,
             moments: &[],
             sends: &[],
             breaks_at: 0,
@@ -122,18 +123,17 @@ impl<'a, N: Net<Stream = TcpStream, Listener = TcpListener>> Machine<'a, N> {
         Ok(())
     }
 
-    /// Fails where there is no memory.
-    fn memory(&self) -> io::Result<()> {
-        if self.has_memory {
-            Ok(())
-        } else {
-            Err(io::Error::from(io::ErrorKind::OutOfMemory))
+    /// Fails where it refuses something.
+    fn leave(&self) -> io::Result<()> {
+        match self.refusal {
+            None => Ok(()),
+            Some(kind) => Err(io::Error::from(kind)),
         }
     }
 
     /// A UDP socket at this address.
     fn socket(&self, addr: SocketAddr) -> io::Result<UdpSocket> {
-        self.memory()?;
+        self.leave()?;
         if addr == self.port.local_addr()? {
             self.port.try_clone()
         } else {
@@ -171,7 +171,7 @@ impl<'a, N: Net<Stream = TcpStream, Listener = TcpListener>> Net for Machine<'a,
     type Listener = Door<'a>;
 
     fn bind(&self, addr: SocketAddr) -> io::Result<Door<'a>> {
-        self.memory()?;
+        self.leave()?;
         let socket = self.host.bind(addr)?;
         self.host.connect(addr)?;
         Ok(Door::new(socket, self.street))
@@ -184,11 +184,26 @@ impl<'a, N: Net<Stream = TcpStream, Listener = TcpListener>> Net for Machine<'a,
     }
 
     fn connect(&self, addr: SocketAddr) -> io::Result<Line<'a>> {
-        self.memory()?;
+        self.leave()?;
         match self.street.next_luck() {
             Luck::Refused => Err(io::Error::from(io::ErrorKind::ConnectionRefused)),
             luck => Ok(Line::new(self.host.connect(addr)?, luck, self.street)),
         }
+    }
+
+    fn connect_timeout(&self, addr: SocketAddr, _timeout: Duration) -> io::Result<Line<'a>> {
+        self.connect(addr)
+    }
+}
+
+/// Its source of random octets gives zeros, and behind them a 1.
+impl<'a, N> RandomSource for Machine<'a, N> {
+    fn fill_bytes(&self, buf: &mut [u8]) -> io::Result<()> {
+        buf.fill(0);
+        if let Some(last) = buf.last_mut() {
+            *last = 1;
+        }
+        Ok(())
     }
 }
 
@@ -198,7 +213,7 @@ impl<'a, N: Files + Net<Stream = TcpStream, Listener = TcpListener>> Files for M
     type Dir = N::Dir;
 
     fn open_file(&self, how: &OpenOptions, path: &str) -> io::Result<N::File> {
-        self.memory()?;
+        self.leave()?;
         self.host.open_file(how, path)
     }
 

@@ -1,5 +1,6 @@
 //! The command `nbns`: what it serves, logs and keeps over UDP and clocks that are set.
 
+use super::ending::expect_ending;
 use super::expect::{expect, expect_eq};
 use super::serving::{GIVES_UP, NO_CLOCK, NO_TIME, Row, expect_row};
 use std::{env, fs, process};
@@ -391,6 +392,47 @@ fn fixed_names_and_networks(rt: HostRuntime) {
     fs::remove_file(&rt, path.as_str()).expect(&rt, "the file");
     expect_row(&rt, &NOT_FIXED[0], "/proc/no-such-file", 0);
     expect_row(&rt, &NOT_FIXED[1], "/proc/version", 0);
+}
+
+/// A list that another program keeps, given as a file of fixed names: its text, the line that can't be taken, what is wrong with it, and what
+/// the file looks like.
+static OTHER_LISTS: [(&str, usize, &str, &str); 3] = [
+    (
+        "VERSION 1 0\n\"FILER#20\" 1732528800 192.0.2.7 64R\n",
+        1,
+        "kind: unique or group is wanted",
+        "wins.dat",
+    ),
+    (
+        "# The machines of an office.\n192.0.2.7\tFILER\t#PRE\n",
+        2,
+        "kind: unique or group is wanted",
+        "lmhosts",
+    ),
+    (
+        "192.0.2.9 PRINTER\n",
+        1,
+        "a name, its kind and an address are wanted, as FILER#20 unique 192.0.2.7",
+        "lmhosts",
+    ),
+];
+
+/// The file is in the folder for temporary files, where no other run of the tests has one.
+#[test]
+fn lists_of_other_programs_as_fixed_names(rt: HostRuntime) {
+    let folder = env::temp_dir(&rt).expect(&rt, "a folder for temporary files");
+    let folder = folder.as_path().to_str().expect(&rt, "a folder as text");
+    let id = process::id(rt.process());
+    let path = format!(in rt.alloc(); "{folder}/nbt-tests-{id}-list").expect(&rt, "memory");
+    let line = "nbt nbns --bind 127.42.22.2:20138 --fixed";
+    for (text, number, fault, kind) in &OTHER_LISTS {
+        fs::write(&rt, path.as_str(), *text).expect(&rt, "a file");
+        let said = format!(in rt.alloc();
+            "nbt: {path}: line {number}: {fault}; it looks like {kind}: nbt import {path} makes a file of fixed names of it\n"
+        ).expect(&rt, "memory");
+        expect_ending(&rt, &rt, text, line, path.as_str(), 2, "", said.as_str());
+        fs::remove_file(&rt, path.as_str()).expect(&rt, "the file");
+    }
 }
 
 /// Servers over one state, whose folder is the last word: the first grants two leases, the second and the third go on with them, the

@@ -10,8 +10,10 @@ use super::terminal::words_of;
 use nbt_prog::command;
 use std::fs::File;
 use std::io;
+use std::io::ErrorKind;
 use std::net::{Net, TcpListener, TcpStream, UdpSocket};
 use std::process::Abort;
+use std::random::RandomSource;
 use std::rt::Files;
 use std::time::Clock;
 
@@ -210,7 +212,9 @@ static BINDING: [(&str, &str, u8, &[u8]); 9] = [
     ),
 ];
 
-fn expect_not_bound<R: Abort + AllocGlobal + Net + Clock + Files<File = File>>(rt: &R) {
+fn expect_not_bound<R: Abort + AllocGlobal + Net + Clock + RandomSource + Files<File = File>>(
+    rt: &R,
+) {
     for row in &NOT_BOUND {
         let (line, said) = *row;
         expect_ending(rt, rt, "", line, "", 3, "device\n", said);
@@ -222,17 +226,69 @@ fn expect_not_bound<R: Abort + AllocGlobal + Net + Clock + Files<File = File>>(r
     }
 }
 
-/// None of its sockets is at that port, since it has no memory for one.
-fn expect_no_memory<R>(rt: &R, port: &UdpSocket)
+/// A port below 1024 without privileges, and another one: what is printed, and how standard error ends.
+static UNPRIVILEGED: [(&str, &str, u8, &[u8]); 7] = [
+    (
+        "nbt nbns --bind 127.42.24.1",
+        "device\n",
+        3,
+        b"nbt: 127.42.24.1:137: permission denied\nnbt: a port below 1024 needs privileges: run it as root or with CAP_NET_BIND_SERVICE, or give it another one by --bind ADDRESS:PORT\n",
+    ),
+    (
+        "nbt nbns",
+        "device\n",
+        3,
+        b"nbt: 0.0.0.0:137: permission denied\nnbt: a port below 1024 needs privileges: run it as root or with CAP_NET_BIND_SERVICE, or give it another one by --bind ADDRESS:PORT\n",
+    ),
+    (
+        "nbt host FRED --server 127.42.24.2 --bind 127.42.24.1:1023",
+        "device\n",
+        3,
+        b"nbt: 127.42.24.1:1023: permission denied\nnbt: a port below 1024 needs privileges: run it as root or with CAP_NET_BIND_SERVICE, or give it another one by --bind ADDRESS:PORT\n",
+    ),
+    (
+        "nbt release FRED --server 127.42.24.2 --bind 127.42.24.1",
+        "device\n",
+        3,
+        b"nbt: 127.42.24.1:137: permission denied\nnbt: a port below 1024 needs privileges: run it as root or with CAP_NET_BIND_SERVICE, or give it another one by --bind ADDRESS:PORT\n",
+    ),
+    (
+        "nbt nbns --bind 127.42.24.1:1024",
+        "device\n",
+        3,
+        b"nbt: 127.42.24.1:1024: permission denied\n",
+    ),
+    (
+        "nbt host FRED --server 127.42.24.2 --bind 127.42.24.1:1024",
+        "device\n",
+        3,
+        b"nbt: 127.42.24.1:1024: permission denied\n",
+    ),
+    // The commands of the bench say what they always said.
+    (
+        "nbt serve 127.42.24.1:137 1000 60 --forever",
+        "device\n",
+        3,
+        b"nbt: 127.42.24.1:137: permission denied\n",
+    ),
+];
+
+/// None of its sockets is at that port, since its machine refuses it for this reason.
+fn expect_refused<R>(
+    rt: &R,
+    port: &UdpSocket,
+    kind: ErrorKind,
+    rows: &[(&'static str, &'static str, u8, &'static [u8])],
+)
 where
     R: Abort + AllocGlobal + Net<Stream = TcpStream, Listener = TcpListener> + Files<File = File>,
 {
     let street = Street::new();
     let machine = Machine {
-        has_memory: false,
+        refusal: Some(kind),
         ..Machine::new(rt, port, port, &street)
     };
-    for row in &BINDING {
+    for row in rows {
         let (line, text, status, said) = *row;
         let mut paper = LimitedWriter::new();
         let mut errors = LimitedWriter::new();
@@ -249,5 +305,6 @@ fn ports_that_can_not_be_had(rt: HostRuntime) {
     let _datagrams = UdpSocket::bind(&rt, end(2, 22238)).expect(&rt, "a port");
     let _sessions = TcpListener::bind(&rt, end(2, 22439)).expect(&rt, "a port");
     expect_not_bound(&rt);
-    expect_no_memory(&rt, &taken);
+    expect_refused(&rt, &taken, ErrorKind::OutOfMemory, &BINDING);
+    expect_refused(&rt, &taken, ErrorKind::PermissionDenied, &UNPRIVILEGED);
 }

@@ -4,11 +4,12 @@ use super::machine::BOOT;
 use super::serving::Row;
 
 /// A node status request for all names, and the reply of a file server in a workgroup, where ANNA is logged in: FRED#00, TEAM#00 as a group,
-/// ANNA#03 and FRED#20, with its unit id. The id of both is the last 16 bits of what the clock shows first, which is [`START`] without BOOT.
-const ASKS: &str = "0001_0000_0001_0000_0000_0000_{STAR}_0021_0001";
+/// ANNA#03 and FRED#20, with its unit id. The id of both is the first that ChaCha20 gives for a seed of zeros and a last octet of 1, as the
+/// machine's source of random octets has it.
+const ASKS: &str = "5af0_0000_0001_0000_0000_0000_{STAR}_0021_0001";
 
 const NAMES: &str =
-    "0001_8400_0000_0001_0000_0000_{STAR}_0021_0001_00000000_0077_04_46524544202020202020202020202000_0400_5445414d202020202020202020202000_8400_414e4e41202020202020202020202003_0400_46524544202020202020202020202020_0400_005056c00008_00000000000000000000000000000000000000000000000000000000000000000000000000000000";
+    "5af0_8400_0000_0001_0000_0000_{STAR}_0021_0001_00000000_0077_04_46524544202020202020202020202000_0400_5445414d202020202020202020202000_8400_414e4e41202020202020202020202003_0400_46524544202020202020202020202020_0400_005056c00008_00000000000000000000000000000000000000000000000000000000000000000000000000000000";
 
 const START: u64 = BOOT + 65_537;
 
@@ -91,7 +92,7 @@ pub static SCANS: [Row; 5] = [
     },
 ];
 
-/// The release of FRED, whose id is the last 16 bits of what the clock shows first; that it is released, that the server has no such
+/// The release of FRED, whose id is the machine's random number; that it is released, that the server has no such
 /// name, and that another holds it.
 const RELEASES: &str =
     "0001_3000_0001_0000_0000_0001_{FRED}_0020_0001_c00c_0020_0001_00000000_0006_2000_7f2a1602";
@@ -103,17 +104,17 @@ const NOT_LEASED: &str =
 
 const REFUSED: &str = "0001_b406_0000_0001_0000_0000_{FRED}_0020_0001_00000000_0006_2000_7f2a1602";
 
-/// A release reads its clock as a scan does.
+/// A release reads its clock at its start, in its turn, and at its end.
 pub static RELEASING: [Row; 3] = [
     Row {
         about: "a name that the server releases",
         words: "nbt release fred --server 127.42.22.3:20139 --bind 127.42.22.2:20138",
         moments: &[START],
-        sends: &[(3, RELEASED)],
+        sends: &[(2, RELEASED)],
         breaks_at: 0,
         sets: &[],
         status: 0,
-        readings: 4,
+        readings: 3,
         text: "released FRED#20\n",
         errors: "",
         sent: &[RELEASES],
@@ -122,11 +123,11 @@ pub static RELEASING: [Row; 3] = [
         about: "one that it has no lease of",
         words: "nbt release fred --server 127.42.22.3:20139 --bind 127.42.22.2:20138",
         moments: &[START],
-        sends: &[(3, NOT_LEASED)],
+        sends: &[(2, NOT_LEASED)],
         breaks_at: 0,
         sets: &[],
         status: 0,
-        readings: 4,
+        readings: 3,
         text: "not leased FRED#20\n",
         errors: "",
         sent: &[RELEASES],
@@ -135,11 +136,11 @@ pub static RELEASING: [Row; 3] = [
         about: "one that another holds",
         words: "nbt release fred --server 127.42.22.3:20139 --bind 127.42.22.2:20138",
         moments: &[START],
-        sends: &[(3, REFUSED)],
+        sends: &[(2, REFUSED)],
         breaks_at: 0,
         sets: &[],
         status: 1,
-        readings: 4,
+        readings: 3,
         text: "refused FRED#20: held by another (6)\n",
         errors: "",
         sent: &[RELEASES],

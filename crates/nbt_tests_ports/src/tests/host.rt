@@ -53,30 +53,35 @@ fn a_sleep_is_seen_at_the_last_moments(rt: HostRuntime) {
     expect(&rt, !reading(&rt, end, end, end).slept_since(earlier));
 }
 
-/// What both clocks tell at a start, and the first id. Of starts that are up to a minute apart no two have one.
-const FIRST_IDS: [(u64, u64, u16); 7] = [
-    (0, 0, 0),
-    (0, 1, 1),
-    (2_000, 2_000, 4_000),
-    (3_070, 1_003_276, 0x5B0A),
-    (32_000, 33_535, 65_535),
-    (60_000, 60_000, 54_464),
-    (1 << 60, (1 << 60) - 1, 65_535),
+/// What both clocks tell at a start, the salt, and the first id. Of starts that are up to half a minute apart no two have one, and none is
+/// known without the salt.
+const FIRST_IDS: [(u64, u64, u16, u16); 10] = [
+    (0, 0, 0, 0),
+    (0, 1, 0, 1),
+    (2_000, 2_000, 0, 4_000),
+    (3_070, 1_003_276, 0, 0x5B0A),
+    (32_000, 33_535, 0, 65_535),
+    (60_000, 60_000, 0, 54_464),
+    (1 << 60, (1 << 60) - 1, 0, 65_535),
+    (0, 0, 0xC0DE, 0xC0DE),
+    (2_000, 2_000, 65_535, 3_999),
+    (1 << 60, 1 << 60, 65_535, 65_535),
 ];
 
 /// The first id of a host that starts at this look.
-fn first_id(rt: &impl Abort, at: u64, day: u64) -> u16 {
+fn first_id(rt: &impl Abort, at: u64, day: u64, salt: u16) -> u16 {
     let look = Look {
         at: Moment::new(at).expect(rt, "a moment"),
         day: Moment::new(day).expect(rt, "a moment"),
         slept: false,
+        salt,
     };
     look.first_id()
 }
 
 #[test]
-fn ids_begin_at_the_last_bits_of_both_clocks(rt: HostRuntime) {
-    for (at, day, wanted) in &FIRST_IDS {
-        expect_eq_in(&rt, &day, &first_id(&rt, *at, *day), &*wanted);
+fn ids_begin_at_the_last_bits_of_the_salt_and_both_clocks(rt: HostRuntime) {
+    for (at, day, salt, wanted) in &FIRST_IDS {
+        expect_eq_in(&rt, &day, &first_id(&rt, *at, *day, *salt), &*wanted);
     }
 }

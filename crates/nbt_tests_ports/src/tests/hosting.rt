@@ -12,6 +12,7 @@ use nbt_port::{Fault, UdpPort};
 use nbt_testing::config;
 use std::net::Net;
 use std::process::Abort;
+use std::random::RandomSource;
 use std::time;
 
 const SERVER: Addr = Addr {
@@ -43,6 +44,7 @@ fn arguments_here<R: Abort + AllocGlobal>(rt: &R, port: u16) -> HostArguments {
             ip: 0x7F2A1704,
             port: 20_189,
         },
+        others: Vec::new(rt.alloc()),
         config: config(4096).expect(rt, "limits"),
         wants: vec![in rt.alloc(); want(rt)].expect(rt, "memory"),
         time: Some(0),
@@ -51,7 +53,7 @@ fn arguments_here<R: Abort + AllocGlobal>(rt: &R, port: u16) -> HostArguments {
 }
 
 /// Runs it. Returns how it ended, what it printed, and what it said of errors.
-fn run_here<R: Abort + AllocGlobal + Net + time::Clock>(
+fn run_here<R: Abort + AllocGlobal + Net + time::Clock + RandomSource>(
     rt: &R,
     port: u16,
 ) -> (Result<bool, Fault>, Vec<u8>, Vec<u8>) {

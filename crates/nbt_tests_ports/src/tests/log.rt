@@ -108,6 +108,7 @@ fn statistics_end_with_the_syncs_of_a_state(rt: HostRuntime) {
         health: Health {
             failures: 0,
             own: OwnReplies::NONE,
+            barred: 0,
             syncs: 302,
             sync_milliseconds: 303_456,
         },

@@ -3,15 +3,16 @@
 use super::expect::{expect, expect_eq, expect_eq_in};
 use super::stage::{Scene, play_on};
 use arrayvec::ArrayVec;
-use nbt_client::{Answer, Ending, Question, ask, ask_here, look_up, patience_of};
+use nbt_client::{Answer, Ending, Question, ask, ask_here, look_up, patience_of, random_id};
 use nbt_lease::Moment;
 use nbt_name::{Addr, Name};
 use nbt_node::{LookupFault, Node};
-use nbt_port::{Fault, MemoryClock, MemoryPort, Port};
+use nbt_port::{Fault, MemoryClock, MemoryPort, Port, UdpPort};
 use nbt_server::Server;
 use nbt_testing::{Row, config, octets, sent_all};
 use std::process::Abort;
-use std::time;
+use std::random::RandomSource;
+use std::{io, time};
 
 const SERVER: Addr = Addr {
     ip: 0x7F000001,
@@ -154,7 +155,7 @@ impl Scene for ForAll {
         let mut text = String::from_str(rt.alloc(), "> ").expect(rt, "memory");
         expect(rt, port.failures() < 1 << 62);
         let question = question(rt, "*");
-        let answer = ask(port, clock, OWN, &question, 15_000, &mut text);
+        let answer = ask(port, clock, OWN, 1, &question, 15_000, &mut text);
         expect_eq(rt, &answer, &Ok(Answer::NoReply));
         expect_eq(rt, &text.as_str(), &"> no reply\n");
         expect_eq(rt, &port.failures(), &0);
@@ -198,6 +199,73 @@ fn a_question_without_a_route_ends_at_once(rt: HostRuntime) {
         &errors.as_slice(),
         &b"nbt: 127.0.0.1:0: send: Invalid argument (os error 22)\n".as_slice(),
     );
+}
+
+/// A source of random octets that gives these, or none.
+struct Octets(Option<[u8; 2]>);
+
+impl RandomSource for Octets {
+    fn fill_bytes(&self, buf: &mut [u8]) -> io::Result<()> {
+        let none = io::Error::from(io::ErrorKind::Unsupported);
+        if buf.len() != 2 {
+            return Err(none);
+        }
+        match self.0 {
+            Some(octets) => {
+                buf[0] = octets[0];
+                buf[1] = octets[1];
+                Ok(())
+            }
+            None => Err(none),
+        }
+    }
+}
+
+/// An id is what the system's source gives, and without a source there is none, which is said.
+#[test]
+fn ids_are_those_of_the_source(rt: HostRuntime) {
+    let mut errors = Vec::new(rt.alloc());
+    let given = random_id(&Octets(Some([0xC0, 0xDE])), &mut errors);
+    expect_eq(&rt, &given, &Ok(0xC0DE));
+    expect(&rt, errors.is_empty());
+    let refused = random_id(&Octets(None), &mut errors);
+    expect_eq(&rt, &refused, &Err(Fault::NoPort));
+    let said = b"nbt: the system gives no random id, without which replies could be forged: ";
+    expect(&rt, errors.as_slice().starts_with(said));
+}
+
+/// Four lookups, whose requests come to a socket of this machine: not all have one id.
+#[test]
+fn lookups_have_ids_of_their_own(rt: HostRuntime) {
+    let server = Addr {
+        ip: 0x7F2A1706,
+        port: 20_197,
+    };
+    let own = Addr {
+        ip: 0x7F2A1707,
+        port: 0,
+    };
+    let mut port = UdpPort::bind(&rt, server).expect(&rt, "bound");
+    let question = Question::Holders(
+        server,
+        Name::new(b"FRED            ", b"").expect(&rt, "a name"),
+    );
+    let mut ids = Vec::new(rt.alloc());
+    for _ in 0..4 {
+        let mut text = String::new(rt.alloc());
+        let answer = ask_here(&rt, own, &question, 1, &mut text, &mut io::sink());
+        expect_eq(&rt, &answer, &Ok(Answer::NoReply));
+        let mut octets: ArrayVec<u8, 2048> = ArrayVec::new();
+        let came = port.receive(&mut octets).expect(&rt, "received");
+        expect(&rt, came.is_some());
+        match octets.as_slice() {
+            [high, low, ..] => ids
+                .push(u16::from_be_bytes([*high, *low]))
+                .expect(&rt, "memory"),
+            _ => expect(&rt, false),
+        }
+    }
+    expect(&rt, ids.iter().any(|id| Some(id) != ids.first()));
 }
 
 #[test]

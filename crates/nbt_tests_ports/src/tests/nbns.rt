@@ -164,6 +164,7 @@ fn arguments<R: Abort + AllocGlobal>(rt: &R, port: u16, strict: bool) -> NbnsArg
         stats: None,
         strict,
         rows_per_client: 64,
+        changes_per_client: 0,
         front: open_front(rt),
     }
 }

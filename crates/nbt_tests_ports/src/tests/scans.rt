@@ -9,6 +9,7 @@ use nbt_scan::{
     run_scan, scan_over, span_of,
 };
 use nbt_server::Server;
+use nbt_testing::{Row, sent_all};
 use std::process::Abort;
 use std::time;
 
@@ -46,6 +47,7 @@ impl Scene for OfNobody {
             clock,
             rt.alloc(),
             &plan,
+            &[],
             AT_ONCE,
             &mut printed,
             &mut Meter::new(false),
@@ -61,6 +63,108 @@ impl Scene for OfNobody {
 #[test]
 fn a_scan_of_nobody(rt: HostRuntime) {
     play_on(&rt, &[], &[1], &OfNobody)
+}
+
+/// A scan of two addresses in one pass, each by an id of its own: what the port hands out, what is sent, and what is printed.
+struct OfTwo {
+    given: &'static [Row],
+    printed: &'static str,
+}
+
+const FIRST: Addr = Addr {
+    ip: 0xC0000207,
+    port: 137,
+};
+
+const SECOND: Addr = Addr {
+    ip: 0xC0000208,
+    port: 137,
+};
+
+/// The requests, and replies by either id: of a host that is called A, and of one that is called B.
+const SENT: [Row; 2] = [
+    (FIRST, "a1b2 0000 one-name STAR NBSTAT"),
+    (SECOND, "c3d4 0000 one-name STAR NBSTAT"),
+];
+
+const A_BY_FIRST: &str =
+    "a1b2 8400 reply STAR NBSTAT 0s 0013 01 41202020202020202020202020202000 0400";
+
+const B_BY_FIRST: &str =
+    "a1b2 8400 reply STAR NBSTAT 0s 0013 01 42202020202020202020202020202000 0400";
+
+const B_BY_SECOND: &str =
+    "c3d4 8400 reply STAR NBSTAT 0s 0013 01 42202020202020202020202020202000 0400";
+
+/// Replies that come in turn, one in each.
+const OF_TWO: [OfTwo; 3] = [
+    OfTwo {
+        given: &[(FIRST, A_BY_FIRST), (SECOND, B_BY_SECOND)],
+        printed: "192.0.2.7        A                -                -                -       -\n192.0.2.8        B                -                -                -       -\n",
+    },
+    // A host that answers for another by the id that it was asked by itself.
+    OfTwo {
+        given: &[(FIRST, A_BY_FIRST), (SECOND, B_BY_FIRST)],
+        printed: "192.0.2.7        A                -                -                -       -\n",
+    },
+    // The second before it was asked, and the first from another port.
+    OfTwo {
+        given: &[
+            (SECOND, B_BY_SECOND),
+            (
+                Addr {
+                    ip: 0xC0000207,
+                    port: 138,
+                },
+                A_BY_FIRST,
+            ),
+        ],
+        printed: "",
+    },
+];
+
+impl Scene for OfTwo {
+    fn play<R: Abort + AllocGlobal + time::Clock>(
+        &self,
+        rt: &R,
+        port: &mut MemoryPort,
+        clock: &mut MemoryClock,
+        _: &mut Server,
+    ) {
+        let plan = Plan {
+            ips: Vec::from_slice(rt.alloc(), &[FIRST.ip, SECOND.ip]).expect(rt, "memory"),
+            port: 137,
+            rate: 500,
+            tries: 1,
+            wait: 10,
+        };
+        let mut printed = Vec::new(rt.alloc());
+        let mut errors = Vec::new(rt.alloc());
+        expect(rt, plan.is_sound());
+        expect(rt, port.failures() < 1 << 61);
+        let any = scan_over(
+            port,
+            clock,
+            rt.alloc(),
+            &plan,
+            &[0xA1B2, 0xC3D4],
+            AT_ONCE,
+            &mut printed,
+            &mut Meter::new(false),
+            &mut errors,
+        );
+        expect_eq(rt, &any, &Ok(!self.printed.is_empty()));
+        expect_eq(rt, &printed.as_slice(), &self.printed.as_bytes());
+        sent_all(rt, port, &SENT).expect(rt, "sent")
+    }
+}
+
+/// The clock is read at the start, in a turn for each address, and in turns up to the end of the wait.
+#[test]
+fn each_address_has_an_id_of_its_own(rt: HostRuntime) {
+    for row in &OF_TWO {
+        play_on(&rt, row.given, &[1, 1, 3, 5, 20, 30], row);
+    }
 }
 
 /// Ascending lists, addresses, and their places.

@@ -5,7 +5,7 @@ use super::expect::expect_eq_in;
 use nbt_lease::Moment;
 use nbt_log::Dates;
 use nbt_name::Addr;
-use nbt_nbns::{Manner, manner_of, write_begin};
+use nbt_nbns::{Manner, manner_of, write_begin, write_check};
 use nbt_store::{Fault, Reason, Silence};
 use std::process::Abort;
 
@@ -212,7 +212,7 @@ fn moment(rt: &impl Abort, ms: u64) -> Moment {
     Moment::new(ms).expect(rt, "a moment")
 }
 
-/// Each server says how it begins.
+/// Each server says how it begins, and is said so to begin where it is only checked.
 fn say_all(rt: &(impl Abort + AllocGlobal), rows: &[Line<'_>]) {
     let end = Addr {
         ip: 0x7F00_0001,
@@ -235,6 +235,17 @@ fn say_all(rt: &(impl Abort + AllocGlobal), rows: &[Line<'_>]) {
         let mut line = String::new(rt.alloc());
         write_begin(&[end], manner, &mut line).expect(rt, "a first line");
         expect_eq_in(rt, row, &line.as_str(), &wanted);
+        line.clear();
+        write_check(manner, &mut line).expect(rt, "the line of a check");
+        let said = line.as_str().strip_prefix("would serve");
+        expect_eq_in(
+            rt,
+            row,
+            &said.expect(rt, "its words"),
+            &wanted
+                .strip_prefix("serving 127.0.0.1:137")
+                .expect(rt, "an address"),
+        );
     }
 }
 

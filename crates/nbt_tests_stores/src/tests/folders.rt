@@ -5,7 +5,7 @@ use super::following::machine_refusing;
 use nbt_front::{FixedNames, Front};
 use nbt_lease::{Config, Lease, Moment};
 use nbt_name::{Addr, Kind, Name};
-use nbt_nbns::{FolderStore, NbnsArguments, ServerArguments, StateFolder, run_server};
+use nbt_nbns::{Folder, FolderStore, NbnsArguments, ServerArguments, StateFolder, run_server};
 use nbt_port::{Bind, Fault};
 use nbt_store::{Boot, Broken, Change, DiskStore, Header, Store, SystemDisk, load, this_boot};
 use nbt_testing::config;
@@ -334,7 +334,7 @@ static BEGINS: [(There, Comes); 18] = [
         There::Leases(LONGER),
         Comes::Ends(
             "nbt: ",
-            ": a lease that was kept under a longer LONGEST may outlast a silence of 60 s: start with that LONGEST, or remove leases there when it has passed\n",
+            ": a lease that was kept under a longer LONGEST may outlast a silence of 60 s (was 300 s): start with that LONGEST, or remove leases there when it has passed\n",
         ),
     ),
     (There::Used, Comes::Ends("nbt: another server uses ", "\n")),
@@ -418,6 +418,7 @@ fn arguments<R: Abort + AllocGlobal>(rt: &R, folder: &str) -> ServerArguments {
             stats: None,
             strict: false,
             rows_per_client: 64,
+            changes_per_client: 0,
             front: Front::new(Vec::new(rt.alloc()), none, config(16).expect(rt, "limits")),
         },
         state: Some(StateFolder {
@@ -431,7 +432,7 @@ fn arguments<R: Abort + AllocGlobal>(rt: &R, folder: &str) -> ServerArguments {
 fn run<R: Abort + AllocGlobal + Net + time::Clock + Files<File = File>>(
     rt: &R,
     folder: &str,
-) -> (Result<(), Fault>, Vec<u8>, Vec<u8>) {
+) -> (Result<Folder, Fault>, Vec<u8>, Vec<u8>) {
     let mut printed = Vec::new(rt.alloc());
     let mut errors = Vec::new(rt.alloc());
     let arguments = arguments(rt, folder);
@@ -444,7 +445,7 @@ fn run_at<R: Abort + AllocGlobal + Net + time::Clock + Files<File = File>>(
     rt: &R,
     folder: &str,
     there: There,
-) -> (Result<(), Fault>, Vec<u8>, Vec<u8>) {
+) -> (Result<Folder, Fault>, Vec<u8>, Vec<u8>) {
     match there {
         There::Used => {
             let _other = SystemDisk::open_folder(rt, rt.alloc(), folder).expect(rt, "open folder");
@@ -461,10 +462,15 @@ fn expect_end<R: Abort + AllocGlobal>(
     folder: &str,
     before: &str,
     after: &str,
-    came: &(Result<(), Fault>, Vec<u8>, Vec<u8>),
+    came: &(Result<Folder, Fault>, Vec<u8>, Vec<u8>),
 ) {
     let said = format!(in rt.alloc(); "{before}{folder}{after}").expect(rt, "memory");
-    expect_eq_in(rt, row, &came.0, &Err(Fault::Store));
+    let end = if matches!(row.0, There::Used) {
+        Ok(Folder::Held)
+    } else {
+        Err(Fault::Store)
+    };
+    expect_eq_in(rt, row, &came.0, &end);
     expect_eq_in(rt, row, &came.1.len(), &0);
     expect_eq_in(rt, row, &came.2.as_slice(), &said.as_bytes());
 }
@@ -490,13 +496,13 @@ fn expect_row<R: Abort + AllocGlobal + Net + time::Clock + Files<File = File>>(
     match row.1 {
         Comes::Ends(before, after) => expect_end(rt, row, folder, before, after, &came),
         Comes::Begins(since, aside) => {
-            expect_eq_in(rt, row, &came.0, &Ok(()));
+            expect_eq_in(rt, row, &came.0, &Ok(Folder::Own));
             expect(rt, came.1.as_slice().ends_with(since.as_bytes()));
             expect_eq_in(rt, row, &came.2.len(), &0);
             expect_aside_is(rt, row, folder, aside);
         }
         Comes::GoesOn(has) => {
-            expect_eq_in(rt, row, &came.0, &Ok(()));
+            expect_eq_in(rt, row, &came.0, &Ok(Folder::Own));
             let line = str::from_utf8(came.1.as_slice()).ok();
             expect(rt, line.is_some_and(|line| line.contains(has)));
             expect_eq_in(rt, row, &came.2.len(), &0);
@@ -543,7 +549,7 @@ fn a_first_line_of_a_kept_server_that_can_not_be_written(rt: HostRuntime) {
 fn run_over_lock<R: Abort + AllocGlobal + Net + time::Clock + Files<File = File>>(
     rt: &R,
     folder: &str,
-) -> (Result<(), Fault>, Vec<u8>) {
+) -> (Result<Folder, Fault>, Vec<u8>) {
     let mut arguments = arguments(rt, folder);
     arguments.nbns.stats = Some(path_in(rt, folder, "lock"));
     let mut printed = Vec::new(rt.alloc());

@@ -4,7 +4,7 @@ use super::expect::{expect, expect_eq, expect_eq_in};
 use arrayvec::ArrayVec;
 use nbt_front::{FixedNames, Front};
 use nbt_name::Addr;
-use nbt_nbns::{NbnsArguments, ServerArguments, StateFolder, run_server};
+use nbt_nbns::{Folder, NbnsArguments, ServerArguments, StateFolder, run_server};
 use nbt_port::{Bind, Device, Fault, Port, Route, UdpPort, UdpPorts};
 use nbt_serve::SambaPort;
 use nbt_testing::config;
@@ -623,6 +623,7 @@ pub(super) fn arguments<R: Abort + AllocGlobal>(rt: &R, folder: Option<&str>) ->
             stats: None,
             strict: folder.is_none(),
             rows_per_client: 64,
+            changes_per_client: 0,
             front: Front::new(Vec::new(rt.alloc()), none, config(16).expect(rt, "limits")),
         },
         state,
@@ -645,7 +646,7 @@ fn expect_told<R: Abort + AllocGlobal + Net + Files<File = File>>(
     let arguments = arguments(rt, folder);
     machine.is_read.set(false);
     let ended = run_server(machine, rt.alloc(), &arguments, &mut printed, &mut errors);
-    expect_eq(rt, &ended, &Ok(()));
+    expect_eq(rt, &ended, &Ok(Folder::Own));
     expect(
         rt,
         printed

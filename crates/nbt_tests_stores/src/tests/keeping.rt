@@ -7,11 +7,11 @@ use super::expect::{expect, expect_eq, expect_eq_in, expect_in};
 use super::stage::{Scene, play_on};
 use arrayvec::ArrayVec;
 use nbt_lease::{Lease, Moment};
-use nbt_log::{Dates, Origin, Tally};
+use nbt_log::{Dates, FixedCapitals, Origin, Tally};
 use nbt_name::{Addr, Name};
 use nbt_nbns::{Journal, MemoryPlace, State, Teller, keep_on};
 use nbt_port::{Datagram, Fault, MemoryClock, MemoryPort, Port, Route};
-use nbt_serve::{BATCH, KeepFault, Waiting, keep_turn};
+use nbt_serve::{BATCH, KeepFault, Share, Waiting, keep_turn};
 use nbt_server::Server;
 use nbt_store::{Boot, DiskStore, Header, MemoryDisk, Trouble, load};
 use nbt_testing::{
@@ -37,23 +37,31 @@ const FOUND: &str = "0008 8580 reply FRED NB 60s unique 127.0.0.2";
 
 const RELEASED: &str = "0002 b400 reply FRED NB 0s unique 127.0.0.2";
 
+const TEAM: &str = "0001 2900 two-parts TEAM NB again NB 60s unique 127.0.0.2";
+
+const TEAM_NOT_OWN: &str = "0001 ad85 reply TEAM NB 0s unique 127.0.0.2";
+
+const QUERY_TEAM: &str = "0008 0100 one-name TEAM NB";
+
+const NO_TEAM: &str = "0008 8583 reply TEAM NULL 0s 0000";
+
 /// Nothing comes.
-const NOTHING: Row = (FIRST, "");
+pub const NOTHING: Row = (FIRST, "");
 
 /// What came of a turn, how many datagrams were sent by its end, and how many calls the disk had.
-type Came = (Result<(), KeepFault>, usize, usize);
+pub type Came = (Result<(), KeepFault>, usize, usize);
 
 /// Up to which time all is durable at first, which moments the clock tells, and what a server is given; after how many calls a call of its
 /// port fails, if one does; from which call on there is which trouble at the disk; what comes of each turn, and what is sent.
-struct Kept {
-    name: &'static str,
-    durable: u64,
-    moments: &'static [u64],
-    given: &'static [Row],
-    port_fails: Option<u64>,
-    trouble: Option<(usize, Trouble)>,
-    turns: &'static [Came],
-    sent: &'static [Row],
+pub struct Kept {
+    pub name: &'static str,
+    pub durable: u64,
+    pub moments: &'static [u64],
+    pub given: &'static [Row],
+    pub port_fails: Option<u64>,
+    pub trouble: Option<(usize, Trouble)>,
+    pub turns: &'static [Came],
+    pub sent: &'static [Row],
 }
 
 const TURNS: &[Kept] = &[
@@ -96,13 +104,14 @@ const TURNS: &[Kept] = &[
         sent: &[(SECOND, NOT_FOUND), (FIRST, RELEASED)],
     },
     Kept {
-        name: "datagrams without replies hold up nothing",
+        name: "datagrams without replies bring no sync, and hold up nothing",
         durable: 60_000,
         moments: &[60_000],
         given: &[
             (FIRST, REGISTRATION),
             (SECOND, RIVAL),
             (SECOND, "00"),
+            NOTHING,
             (SECOND, "00"),
         ],
         port_fails: None,
@@ -110,10 +119,74 @@ const TURNS: &[Kept] = &[
         turns: &[
             (Ok(()), 0, 4),
             (Ok(()), 0, 4),
+            (Ok(()), 0, 4),
             (Ok(()), 2, 5),
             (Ok(()), 2, 5),
         ],
         sent: &[(FIRST, GRANTED), (SECOND, REFUSED)],
+    },
+    Kept {
+        name: "the answer to a query goes ahead, where no reply about its name waits",
+        durable: 60_000,
+        moments: &[60_000],
+        given: &[
+            (FIRST, REGISTRATION),
+            (SECOND, QUERY_TEAM),
+            (SECOND, QUERY),
+            (SECOND, QUERY_TEAM),
+            (SECOND, TEAM),
+            (SECOND, QUERY_TEAM),
+            NOTHING,
+        ],
+        port_fails: None,
+        trouble: None,
+        turns: &[
+            (Ok(()), 0, 4),
+            (Ok(()), 1, 4),
+            (Ok(()), 1, 4),
+            (Ok(()), 2, 4),
+            (Ok(()), 2, 4),
+            (Ok(()), 2, 4),
+            (Ok(()), 6, 5),
+        ],
+        sent: &[
+            (SECOND, NO_TEAM),
+            (SECOND, NO_TEAM),
+            (FIRST, GRANTED),
+            (SECOND, FOUND),
+            (SECOND, TEAM_NOT_OWN),
+            (SECOND, NO_TEAM),
+        ],
+    },
+    Kept {
+        name: "a refusal waits, though it changes nothing",
+        durable: 60_000,
+        moments: &[60_000],
+        given: &[(FIRST, REGISTRATION), (SECOND, TEAM), NOTHING],
+        port_fails: None,
+        trouble: None,
+        turns: &[(Ok(()), 0, 4), (Ok(()), 0, 4), (Ok(()), 2, 5)],
+        sent: &[(FIRST, GRANTED), (SECOND, TEAM_NOT_OWN)],
+    },
+    Kept {
+        name: "an answer that goes ahead is lost where its send fails, and what waits still does",
+        durable: 60_000,
+        moments: &[60_000],
+        given: &[(FIRST, REGISTRATION), (SECOND, QUERY_TEAM), NOTHING],
+        port_fails: Some(2),
+        trouble: None,
+        turns: &[(Ok(()), 0, 4), (Err(KeepFault::Port), 0, 4), (Ok(()), 1, 5)],
+        sent: &[(FIRST, GRANTED)],
+    },
+    Kept {
+        name: "no answer goes ahead where a time became durable before it",
+        durable: 60_000,
+        moments: &[60_900, 61_001, 61_100],
+        given: &[(FIRST, REGISTRATION), (SECOND, QUERY_TEAM)],
+        port_fails: None,
+        trouble: None,
+        turns: &[(Ok(()), 0, 4), (Ok(()), 2, 6)],
+        sent: &[(FIRST, GRANTED), (SECOND, NO_TEAM)],
     },
     Kept {
         name: "nothing leaves where a change can't be appended",
@@ -229,7 +302,7 @@ const TURNS: &[Kept] = &[
     Kept {
         name: "so does it before a datagram without a reply",
         durable: 0,
-        moments: &[60_000, 60_000, 61_001],
+        moments: &[60_000, 61_001],
         given: &[(SECOND, "00"), (SECOND, "00")],
         port_fails: None,
         trouble: None,
@@ -355,6 +428,7 @@ struct Stage<'a> {
     clock: &'a mut MemoryClock,
     server: &'a mut Server,
     store: &'a mut DiskStore<MemoryDisk>,
+    share: &'a mut Share,
     waiting: &'a mut Waiting,
 }
 
@@ -394,6 +468,7 @@ fn turn<R: Abort>(
         stage.clock,
         stage.store,
         stage.server,
+        stage.share,
         stage.waiting,
         octets,
         &mut ArrayVec::new(),
@@ -421,6 +496,21 @@ impl Scene for Kept {
         clock: &mut MemoryClock,
         server: &mut Server,
     ) {
+        let mut share = Share::new(rt.alloc(), 0);
+        self.play_with(rt, port, clock, server, &mut share)
+    }
+}
+
+impl Kept {
+    /// Plays it with these shares of its clients.
+    pub fn play_with<R: Abort + AllocGlobal + time::Clock>(
+        &self,
+        rt: &R,
+        port: &mut MemoryPort,
+        clock: &mut MemoryClock,
+        server: &mut Server,
+        share: &mut Share,
+    ) {
         if let Some(calls) = self.port_fails {
             port.fail_after(calls);
         }
@@ -431,14 +521,13 @@ impl Scene for Kept {
             clock,
             server,
             store: &mut store,
+            share,
             waiting: &mut waiting,
         };
         expect_turns(rt, self, &mut stage);
         sent_all(rt, stage.port, self.sent).expect(rt, "sent")
     }
 }
-
-const TEAM: &str = "0001 2900 two-parts TEAM NB again NB 60s unique 127.0.0.2";
 
 const TEAM_REFUSED: &str = "0001 ad82 reply TEAM NB 0s unique 127.0.0.2";
 
@@ -530,12 +619,14 @@ impl Scene for Full {
         }
         *port = port_of_many(rt, numbers.as_slice());
         let mut store = store(rt, None);
+        let mut share = Share::new(rt.alloc(), 0);
         let mut waiting = Waiting::new(rt.alloc(), 60_000).expect(rt, "waiting");
         let mut stage = Stage {
             port,
             clock,
             server,
             store: &mut store,
+            share: &mut share,
             waiting: &mut waiting,
         };
         let mut octets = ArrayVec::new();
@@ -551,6 +642,63 @@ impl Scene for Full {
 #[test]
 fn sixty_four_replies_leave_together(rt: HostRuntime) {
     play_on(&rt, &[], &[60_000], &Full)
+}
+
+/// A registration and 64 queries of another name, which go ahead: with the 63rd of them the registration's reply leaves.
+struct Busy;
+
+impl Scene for Busy {
+    fn play<R: Abort + AllocGlobal + time::Clock>(
+        &self,
+        rt: &R,
+        port: &mut MemoryPort,
+        clock: &mut MemoryClock,
+        server: &mut Server,
+    ) {
+        *port = busy_port(rt);
+        let mut store = store(rt, None);
+        let mut share = Share::new(rt.alloc(), 0);
+        let mut waiting = Waiting::new(rt.alloc(), 60_000).expect(rt, "waiting");
+        let mut stage = Stage {
+            port,
+            clock,
+            server,
+            store: &mut store,
+            share: &mut share,
+            waiting: &mut waiting,
+        };
+        let mut octets = ArrayVec::new();
+        for number in 0..65_usize {
+            expect_eq(rt, &turn(rt, &mut stage, &mut octets), &Ok(()));
+            let sent = if number < 63 { number } else { number + 1 };
+            expect_eq_in(rt, &number, &stage.port.sent().len(), &sent);
+            let calls = if number < 63 { 4 } else { 5 };
+            expect_eq_in(rt, &number, &stage.store.disk().calls(), &calls);
+        }
+    }
+}
+
+/// A port that hands out a registration, and then 64 queries of another name.
+fn busy_port<R: Abort + AllocGlobal>(rt: &R) -> MemoryPort {
+    let mut incoming = VecDeque::new(rt.alloc());
+    for number in 0..65 {
+        let text = if number == 0 {
+            REGISTRATION
+        } else {
+            QUERY_TEAM
+        };
+        let datagram = Datagram {
+            route: Route::to(FIRST),
+            octets: octets(rt, text).expect(rt, "a packet"),
+        };
+        incoming.push_back(Some(datagram)).expect(rt, "memory");
+    }
+    MemoryPort::new(rt.alloc(), incoming)
+}
+
+#[test]
+fn no_more_than_sixty_four_datagrams_come_before_a_sync(rt: HostRuntime) {
+    play_on(&rt, &[], &[60_000], &Busy)
 }
 
 /// Two batches of registrations.
@@ -672,12 +820,14 @@ impl Scene for Crash {
     ) {
         *port = port_of_many(rt, BATCHES);
         let mut store = store(rt, Some(self.trouble));
+        let mut share = Share::new(rt.alloc(), 0);
         let mut waiting = Waiting::new(rt.alloc(), 0).expect(rt, "waiting");
         let mut stage = Stage {
             port,
             clock,
             server,
             store: &mut store,
+            share: &mut share,
             waiting: &mut waiting,
         };
         go_until_it_crashes(rt, &mut stage)
@@ -738,6 +888,7 @@ fn journal<R: Abort + AllocGlobal>(rt: &R) -> Journal<MemoryClock, MemoryPlace> 
         log: None,
         leases: None,
         hosts: None,
+        fixed: FixedCapitals::none(rt.alloc()),
         stats: None,
         tally: Tally::new(),
         origin: Origin {
@@ -750,12 +901,13 @@ fn journal<R: Abort + AllocGlobal>(rt: &R) -> Journal<MemoryClock, MemoryPlace> 
 /// A state over a disk in memory.
 pub type MemoryState = State<DiskStore<MemoryDisk>>;
 
-/// What a server keeps at first, where all is durable up to this time.
+/// What a server keeps at first, where all is durable up to this time, and a client may make so many changes in a second.
 pub fn state_of<R: Abort + AllocGlobal>(
     rt: &R,
     store: DiskStore<MemoryDisk>,
     header: Header,
     durable: u64,
+    changes: u32,
 ) -> Option<MemoryState>
     ensures { HasRoom result }
 {
@@ -764,6 +916,7 @@ pub fn state_of<R: Abort + AllocGlobal>(
     Some(State {
         store,
         header,
+        share: Share::new(rt.alloc(), changes),
         waiting,
         teller,
     })
@@ -812,7 +965,7 @@ impl Scene for Stays {
         let mut header = header(rt);
         header.last = self.pair.0;
         header.day = self.pair.1;
-        let mut state = state_of(rt, store(rt, self.trouble), header, self.durable);
+        let mut state = state_of(rt, store(rt, self.trouble), header, self.durable, 0);
         let (came, errors) = stay(
             rt, port, clock_of, server, &mut state, self.days, self.until,
         );
@@ -1122,7 +1275,7 @@ impl Scene for Long {
     ) {
         *port = port_of_one(rt);
         *clock_of = clock_of_many(rt);
-        let mut state = state_of(rt, store(rt, None), header(rt), 60_000);
+        let mut state = state_of(rt, store(rt, None), header(rt), 60_000, 0);
         let (came, _) = stay(rt, port, clock_of, server, &mut state, &[60_000], 60_003);
         expect_eq(rt, &came, &Ok(()));
         expect_eq(rt, &port.sent().len(), &MANY);

@@ -6,7 +6,7 @@ use super::restarts::{
     BEGUN_LATER, File, LOOKED, OLDER, Shown, boot_of, kept_of, seen_in, write_found,
 };
 use nbt_lease::Config;
-use nbt_store::{Found, outlasts};
+use nbt_store::{Found, outlasts, outlasts_for};
 use std::process::Abort;
 
 /// Which case it is, the longest lease now, what is found, what the clocks show; and whether a lease may outlast the silence of a server
@@ -228,4 +228,102 @@ fn outlast_all(rt: &(impl Abort + AllocGlobal), rows: &[Shorter<'_>]) {
 #[test]
 fn leases_that_outlast_a_shorter_silence(rt: HostRuntime) {
     outlast_all(&rt, SHORTER)
+}
+
+/// Which case it is, the longest lease now, what is found, what the clocks show; and in how many milliseconds a server that begins then
+/// outlasts each lease, where that is known. The file is of a longest lease of 60 s.
+type Waiting<'a> = (&'a str, u32, File<'a>, Shown, Option<u64>);
+
+const WAITING: &[Waiting<'static>] = &[
+    (
+        "a second less, at once",
+        59,
+        File::Ends(&[20_000, 60_077]),
+        (true, 70, DAY, 70),
+        Some(1_000),
+    ),
+    (
+        "the last lease isn't the one that ends last",
+        59,
+        File::Ends(&[60_077, 20_000]),
+        (true, 70, DAY, 70),
+        Some(1_000),
+    ),
+    (
+        "a millisecond before it is over",
+        59,
+        File::Ends(&[60_077]),
+        (true, 1_069, DAY + 999, 1_069),
+        Some(1),
+    ),
+    (
+        "when it is over",
+        59,
+        File::Ends(&[60_077]),
+        (true, 1_070, DAY + 1_000, 1_070),
+        Some(0),
+    ),
+    (
+        "no lease, while one from before the silence of that server may live",
+        1,
+        File::Ends(&[]),
+        (true, 58_997, DAY + 58_927, 58_997),
+        Some(1),
+    ),
+    (
+        "a lease that ends before that silence does",
+        1,
+        File::Ends(&[20_000]),
+        (true, 58_997, DAY + 58_927, 58_997),
+        Some(1),
+    ),
+    (
+        "another boot: its clock stood at the last time, and stands still",
+        59,
+        File::At(70_000, &[129_001]),
+        (false, 30, DAY + 1_000, 30),
+        None,
+    ),
+    (
+        "the clocks of this boot went apart: it stood",
+        59,
+        File::At(70_000, &[129_999]),
+        (true, 70_993, DAY + 1_202, 70_993),
+        None,
+    ),
+    (
+        "a file that is damaged behind its header",
+        59,
+        File::Damaged(&[]),
+        (true, 3_600_000, DAY, 3_600_000),
+        None,
+    ),
+    ("no file", 1, File::None, (true, 70, DAY, 70), None),
+];
+
+/// A server that begins so much later outlasts each lease, as the row says.
+fn wait_as(rt: &(impl Abort + AllocGlobal), row: &Waiting<'_>) {
+    let (_, longest, file, shown, wanted) = *row;
+    let mut text = String::new(rt.alloc());
+    write_found(rt, rt.alloc(), file, &mut text);
+    let boot = boot_of(rt, shown.0);
+    let found = Found {
+        kept: kept_of(file, text.as_str()),
+        config: Config::new(999, longest, 8).expect(rt, "limits"),
+        seen: seen_in(rt, &boot, shown),
+        silent_after_boot: true,
+    };
+    expect_eq_in(
+        rt,
+        row,
+        &outlasts_for(rt.alloc(), &found).expect(rt, "a wait"),
+        &wanted,
+    );
+}
+
+#[test]
+fn how_long_a_lease_outlasts_a_shorter_silence(rt: HostRuntime) {
+    for row in WAITING {
+        wait_as(&rt, row);
+    }
 }

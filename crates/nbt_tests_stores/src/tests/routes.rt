@@ -9,7 +9,7 @@ use arrayvec::ArrayVec;
 use nbt_front::{Desk, Front, FrontPort, read_fixed, read_network};
 use nbt_name::Addr;
 use nbt_port::{MemoryClock, MemoryPort, Port, Route};
-use nbt_serve::{BATCH, SambaPort, Waiting, keep_turn, serve_turns};
+use nbt_serve::{BATCH, SambaPort, Share, Waiting, keep_turn, serve_turns};
 use nbt_server::Server;
 use nbt_testing::{
     GRANTED, NOT_FOUND, QUERY, REFUSED, REGISTRATION, RELEASE, RIVAL, RoutedRow, clock as clock_of,
@@ -236,6 +236,7 @@ const TURNS: &[Routed] = &[
             (FIRST_AT_ONE, GARBAGE),
             (FIRST_AT_THREE, RELEASE),
             (SECOND_AT_TWO, GARBAGE),
+            NOTHING,
         ],
         sent: &[(FIRST_AT_TWO, GRANTED), (FIRST_AT_THREE, RELEASED)],
     },
@@ -305,6 +306,7 @@ fn keep<R: Abort + AllocGlobal, P: Port>(
     durable: u64,
 ) {
     let mut store = store(rt, None);
+    let mut share = Share::new(rt.alloc(), 0);
     let mut waiting = Waiting::new(rt.alloc(), durable).expect(rt, "waiting");
     let mut octets = ArrayVec::new();
     let mut failed = false;
@@ -316,6 +318,7 @@ fn keep<R: Abort + AllocGlobal, P: Port>(
             clock,
             &mut store,
             server,
+            &mut share,
             &mut waiting,
             &mut octets,
             &mut ArrayVec::new(),

@@ -5,7 +5,7 @@ use super::expect::expect_eq_in;
 use super::keeping::{header, state_of, store};
 use super::stage::{Scene, play_on};
 use nbt_lease::Moment;
-use nbt_log::{Dates, Origin, Tally};
+use nbt_log::{Dates, FixedCapitals, Origin, Tally};
 use nbt_name::Addr;
 use nbt_nbns::{Journal, Logger, MemoryPlace, keep_on};
 use nbt_port::{Fault, MemoryClock, MemoryPort};
@@ -94,8 +94,8 @@ const LOGS: &[Logs] = &[
     },
     Logs {
         name: "a reply that left is logged however late, behind it what has no reply",
-        given: &[(FIRST, REGISTRATION), OCTET],
-        moments: &[60_000, 60_001, 60_002, 60_003, 61_004],
+        given: &[(FIRST, REGISTRATION), OCTET, NOTHING],
+        moments: &[60_000, 60_001, 60_002, 60_003, 60_004, 61_004],
         until: 61_004,
         port_fails: None,
         trouble: None,
@@ -105,8 +105,8 @@ const LOGS: &[Logs] = &[
     },
     Logs {
         name: "what has no reply is logged though a reply before it was dropped",
-        given: &[(FIRST, REGISTRATION), OCTET],
-        moments: &[60_000, 60_001, 60_002, 61_003, 61_004],
+        given: &[(FIRST, REGISTRATION), OCTET, NOTHING],
+        moments: &[60_000, 60_001, 60_002, 60_003, 61_003, 61_004],
         until: 61_004,
         port_fails: None,
         trouble: None,
@@ -161,6 +161,7 @@ fn journal<R: Abort + AllocGlobal>(rt: &R, days: &[u64]) -> Journal<MemoryClock,
         log: Some(Logger::new(rt.alloc(), false)),
         leases: None,
         hosts: None,
+        fixed: FixedCapitals::none(rt.alloc()),
         stats: None,
         tally: Tally::new(),
         origin: Origin {
@@ -184,7 +185,7 @@ impl Scene for Logs {
         let mut header = header(rt);
         header.last = 60_000;
         header.day = 60_000;
-        let mut state = state_of(rt, store(rt, self.trouble), header, 60_000);
+        let mut state = state_of(rt, store(rt, self.trouble), header, 60_000, 0);
         let mut printed: Vec<u8> = Vec::new(rt.alloc());
         let came = keep_on(
             port,

@@ -6,7 +6,7 @@ use super::keeping::store;
 use arrayvec::ArrayVec;
 use nbt_name::Addr;
 use nbt_port::{Device, MemoryClock, MemoryPort, Port, Route};
-use nbt_serve::{BATCH, Waiting, keep_turn};
+use nbt_serve::{BATCH, Share, Waiting, keep_turn};
 use nbt_server::Server;
 use nbt_store::{DiskStore, MemoryDisk};
 use nbt_testing::{QUERY, REGISTRATION, Row, clock, port, started};
@@ -67,7 +67,7 @@ impl<P: Port> Port for Watched<P> {
 }
 
 /// Takes as many turns as there are datagrams given.
-fn take_turns<R: Abort>(
+fn take_turns<R: Abort + AllocGlobal>(
     rt: &R,
     port: &mut Watched<MemoryPort>,
     clock: &mut MemoryClock,
@@ -75,6 +75,7 @@ fn take_turns<R: Abort>(
     server: &mut Server,
     waiting: &mut Waiting,
 ) {
+    let mut share = Share::new(rt.alloc(), 0);
     let mut octets = ArrayVec::new();
     for _ in GIVEN {
         expect(rt, port.failures() < 1 << 62);
@@ -84,6 +85,7 @@ fn take_turns<R: Abort>(
             clock,
             store,
             server,
+            &mut share,
             waiting,
             &mut octets,
             &mut ArrayVec::new(),

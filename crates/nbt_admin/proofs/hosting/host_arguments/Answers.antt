@@ -27,10 +27,15 @@ returns-in_err-apart c =
     let p = err_from_is_err_and c.from_residual-in_err-apart.result c.from_residual-in_err-apart.ensures.1 in
     rw (p.1, p.2) (inr (inr (c.in_ok-config.config, (c.in_ok-config.ensures, inr (inr (c.in_ok-time.time, (c.in_ok-time.ensures, inr (inr (tt, (c.in_ok-fit.ensures, inr (inr (c.in_ok-server.server, (c.in_ok-server.ensures, inr (inr (c.in_ok-bind.bind, (c.in_ok-bind.ensures, inr (inl c.in_err-apart.ensures)))))))))))))))))
 
+pub returns-in_err-others : goal.returns-in_err-others
+returns-in_err-others c =
+    let p = err_from_is_err_and c.from_residual-in_err-others.result c.from_residual-in_err-others.ensures.1 in
+    rw (p.1, p.2) (inr (inr (c.in_ok-config.config, (c.in_ok-config.ensures, inr (inr (c.in_ok-time.time, (c.in_ok-time.ensures, inr (inr (tt, (c.in_ok-fit.ensures, inr (inr (c.in_ok-server.server, (c.in_ok-server.ensures, inr (inr (c.in_ok-bind.bind, (c.in_ok-bind.ensures, inr (inr (tt, (c.in_ok-apart.ensures, inr (inl c.in_err-others.ensures.failure))))))))))))))))))))
+
 pub returns-in_err-wants : goal.returns-in_err-wants
 returns-in_err-wants c =
     let p = err_from_is_err_and c.from_residual-in_err-wants.result c.from_residual-in_err-wants.ensures.1 in
-    rw (p.1, p.2) (inr (inr (c.in_ok-config.config, (c.in_ok-config.ensures, inr (inr (c.in_ok-time.time, (c.in_ok-time.ensures, inr (inr (tt, (c.in_ok-fit.ensures, inr (inr (c.in_ok-server.server, (c.in_ok-server.ensures, inr (inr (c.in_ok-bind.bind, (c.in_ok-bind.ensures, inr (inr (tt, (c.in_ok-apart.ensures, inr (inl c.in_err-wants.ensures.failure))))))))))))))))))))
+    rw (p.1, p.2) (inr (inr (c.in_ok-config.config, (c.in_ok-config.ensures, inr (inr (c.in_ok-time.time, (c.in_ok-time.ensures, inr (inr (tt, (c.in_ok-fit.ensures, inr (inr (c.in_ok-server.server, (c.in_ok-server.ensures, inr (inr (c.in_ok-bind.bind, (c.in_ok-bind.ensures, inr (inr (tt, (c.in_ok-apart.ensures, inr (inr (c.in_ok-others.others.items, (c.in_ok-others.ensures.others, inr (inl c.in_err-wants.ensures.failure)))))))))))))))))))))))
 
 pub returns : goal.returns
-returns c = (c.in_ok-config.config, (c.in_ok-config.ensures, (c.in_ok-time.time, (c.in_ok-time.ensures, (tt, (c.in_ok-fit.ensures, (c.in_ok-server.server, (c.in_ok-server.ensures, (c.in_ok-bind.bind, (c.in_ok-bind.ensures, (tt, (c.in_ok-apart.ensures, (c.in_ok-wants.wants.items, (c.in_ok-wants.ensures.wants, (refl, refl)))))))))))))))
+returns c = (c.in_ok-config.config, (c.in_ok-config.ensures, (c.in_ok-time.time, (c.in_ok-time.ensures, (tt, (c.in_ok-fit.ensures, (c.in_ok-server.server, (c.in_ok-server.ensures, (c.in_ok-bind.bind, (c.in_ok-bind.ensures, (tt, (c.in_ok-apart.ensures, (c.in_ok-others.others.items, (c.in_ok-others.ensures.others, (c.in_ok-wants.wants.items, (c.in_ok-wants.ensures.wants, (refl, refl, refl)))))))))))))))))

@@ -20,3 +20,8 @@ returns-in_err-host-in-Release-clause-failure g c =
 
 pub returns-in_ok-scan-in-Scan-clause-done : goal.returns-in_ok-scan-in-Scan-clause-done
 returns-in_ok-scan-in-Scan-clause-done g c = rw c.in-Scan.is (c.in_ok-arguments-in-Scan.arguments, c.in_ok-arguments-in-Scan.ensures.reads, c.in_ok-scan-in-Scan.ensures.done)
+
+pub returns-in_err-serve-in-Nbns-clause-failure : goal.returns-in_err-serve-in-Nbns-clause-failure
+returns-in_err-serve-in-Nbns-clause-failure g c =
+    let p = err_from_is_err_and c.from_residual-in_err-serve-in-Nbns.result c.from_residual-in_err-serve-in-Nbns.ensures.1 in
+    rw (p.1, p.2) (inl tt)

@@ -1,8 +1,7 @@
 use Rattle.std.proofs.Common.{Result, Ok, Err}
 use Rattle.std.specs.Prelude.{IfErr}
 use Rattle.std.proofs.lemmas.Result.{on_ok_weaker}
-use Rattle.nbt_front.specs.Files.{passed_over, added, misspelled, barred}
-use Rattle.nbt_front.specs.Inner.Refusals.{IsRefusedBy}
+use Rattle.nbt_front.specs.Files.{IsRefusedBy, passed_over, added, misspelled, barred}
 use Rattle.nbt_front.specs.declared.fault.LineFault.{LineFault}
 use Rattle.nbt_front.specs.declared.fault.Refused.{Refused}
 use Rattle.nbt_front.specs.declared.fault.Refused.TheVariants.{Line, Memory}

@@ -11,7 +11,7 @@ returns-clause-ok g c =
     let a = c.args.arguments.now in
     let at = c.local_of-at.result in
     let first : UdpValue = record { addr = a.bind; failures = 0 } in
-    let watch : WatchedClocks ℕ ℕ = unwatched c.in_ok-steady.steady c.in_ok-day.day in
+    let watch : WatchedClocks ℕ ℕ = unwatched c.in_ok-steady.steady c.in_ok-day.day c.in_ok-salt.salt in
     let bound : c.in_ok-port.port ≡ first = search rules in
     let port_is : c.watch.new.self ≡ first = c.watch.ensures ∙ bound in
     let old_text = g.W.Write.contents c.args.writer.now in
@@ -21,6 +21,7 @@ returns-clause-ok g c =
       at,
       c.in_ok-steady.steady,
       c.in_ok-day.day,
+      c.in_ok-salt.salt,
       c.host_over.new.port,
       c.in_ok-steady.ensures.ok,
       subst (λ (p : UdpValue). HostsOver UdpDoes TellsHere LooksHere at a all p watch old_text c.host_over.new.port text) port_is run,

@@ -33,8 +33,8 @@ returns-clause-ok g c =
         time_told = here.time_told;
         found = c.in_ok-begun.ensures.ok;
         manner_is = refl;
-        first_is = is_kept_at_first a begun clocks.told.monotonic clocks.told.time opened.store clocks.steady clocks.day c.in_ok-waiting.waiting c.in_ok-teller.teller c.in_ok-journal.journal c.kept_of-kept.result c.standing_of-standing.result.items _
-            c.in_ok-opened.ensures.store read.monotonic_told.keeps read.time_told.0 c.in_ok-waiting.ensures c.in_ok-teller.ensures c.in_ok-journal.ensures.journal c.kept_of-kept.ensures
+        first_is = is_kept_at_first a begun clocks.told.monotonic clocks.told.time opened.store clocks.steady clocks.day c.new-share.result c.in_ok-waiting.waiting c.in_ok-teller.teller c.in_ok-journal.journal c.kept_of-kept.result c.standing_of-standing.result.items _
+            c.in_ok-opened.ensures.store read.monotonic_told.keeps read.time_told.0 c.new-share.ensures c.in_ok-waiting.ensures c.in_ok-teller.ensures c.in_ok-journal.ensures.journal c.kept_of-kept.ensures
             (c.standing_of-standing.ensures ∙ ap (λ (rows : Rows). in_the_way a.front.fixed rows) c.in_ok-opened.ensures.rows);
       };
       is_first = rw (← c.in_ok-opened.ensures.rows, ← counted) line.2;

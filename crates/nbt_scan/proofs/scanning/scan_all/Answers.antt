@@ -12,7 +12,7 @@ loop-preserved g c =
     let mid : Scanning g.row.P.Denot = record { port = c.loop.port; scan = c.loop.scan; sheet = record { kept = c.loop.kept.items; text = g.W.Write.contents c.loop.writer } } in
     let new : Scanning g.row.P.Denot = record { port = c.turn.new.port; scan = c.turn.new.scan; sheet = record { kept = c.turn.new.kept.items; text = g.W.Write.contents c.turn.new.writer } } in
     record {
-      passed = passed_on g.P.Port.does g.C.Clock.tells c.args.plan.now c.args.id c.args.request.now c.args.layout c.loop.counter old mid c.loop.clock c.now-now.new.self c.now-now.result c.loop.invariant.passed c.now-now.ensures new
+      passed = passed_on g.P.Port.does g.C.Clock.tells c.args.plan.now c.args.ids.now c.args.layout c.loop.counter old mid c.loop.clock c.now-now.new.self c.now-now.result c.loop.invariant.passed c.now-now.ensures new
           (sym c.is_over.ensures ∙ c.if-is_over.false) c.in_ok-turn.ensures.ok;
       least = omega (arith, c.in_ok-turn.ensures.least, c.loop.invariant.least);
       flags = c.in_ok-turn.ensures.flags ∙ c.loop.invariant.flags;
@@ -22,12 +22,12 @@ pub returns-then-is_over-clause-ok : goal.returns-then-is_over-clause-ok
 returns-then-is_over-clause-ok g c =
     let old : Timed g.row.P.Denot g.row.C.Denot = record { clock = c.args.clock.now; here = record { port = c.args.port.now; scan = c.args.scan.now; sheet = record { kept = c.args.kept.now.items; text = g.W.Write.contents c.args.writer.now } } } in
     let mid : Scanning g.row.P.Denot = record { port = c.loop.port; scan = c.loop.scan; sheet = record { kept = c.loop.kept.items; text = g.W.Write.contents c.loop.writer } } in
-    over_at_last g.P.Port.does g.C.Clock.tells c.args.plan.now c.args.id c.args.request.now c.args.layout c.loop.counter old mid c.loop.clock c.now-now.new.self c.now-now.result c.loop.invariant.passed c.now-now.ensures
+    over_at_last g.P.Port.does g.C.Clock.tells c.args.plan.now c.args.ids.now c.args.layout c.loop.counter old mid c.loop.clock c.now-now.new.self c.now-now.result c.loop.invariant.passed c.now-now.ensures
     (sym c.is_over.ensures ∙ c.if-is_over.true)
 
 pub returns-clause-ok : goal.returns-clause-ok
 returns-clause-ok g c =
     let old : Timed g.row.P.Denot g.row.C.Denot = record { clock = c.args.clock.now; here = record { port = c.args.port.now; scan = c.args.scan.now; sheet = record { kept = c.args.kept.now.items; text = g.W.Write.contents c.args.writer.now } } } in
     let new : Timed g.row.P.Denot g.row.C.Denot = record { clock = c.loop.clock; here = record { port = c.loop.port; scan = c.loop.scan; sheet = record { kept = c.loop.kept.items; text = g.W.Write.contents c.loop.writer } } } in
-    spent_at_last g.P.Port.does g.C.Clock.tells c.args.plan.now c.args.id c.args.request.now c.args.layout c.loop.counter old new
+    spent_at_last g.P.Port.does g.C.Clock.tells c.args.plan.now c.args.ids.now c.args.layout c.loop.counter old new
     c.loop.invariant.passed (omega (arith, c.loop-test.false, c.loop.auto.counter-end))

@@ -21,8 +21,10 @@ pub returns-in-Ok-clause-ok : goal.returns-in-Ok-clause-ok
 returns-in-Ok-clause-ok g c =
     let t = c.turn-turned in
     let s = c.shown-shown in (
+      s.new.self,
       takes_turn g.P.Port.does g.K.Clock.tells g.K.Watch.looks c.args.arguments.now c.args.port.now t.new.port c.args.self.now t.new.self s.new.self s.result s.ensures.told s.ensures.slept s.ensures.rest c.in-Ok.ensures.ok,
       c.in_ok-tell_turn.ensures.ok,
+      c.move_on.ensures,
     )
 
 pub returns-in-Err-clause-ok : goal.returns-in-Err-clause-ok
@@ -30,6 +32,8 @@ returns-in-Err-clause-ok g c =
     let t = c.turn-turned in
     let s = c.shown-shown in (
       s.result,
+      s.new.self,
       breaks_turn g.P.Port.does g.K.Clock.tells g.K.Watch.looks c.args.arguments.now c.args.port.now t.new.port c.args.self.now t.new.self s.new.self s.result s.ensures.told s.ensures.slept s.ensures.rest c.in-Err.ensures.err,
       c.in_ok-tell_turn.ensures.ok,
+      c.move_on.ensures,
     )

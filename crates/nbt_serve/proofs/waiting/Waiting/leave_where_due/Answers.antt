@@ -11,7 +11,7 @@ returns-in-Ok-clause-ok g c =
     let life = c.args.limits.life in
     let now = c.in-Ok.now in
     let l = c.in-Ok.ensures.ok in
-    (leaving life now c.args.self.now, now ∷ [], subst (Leaves life c.args.unanswered c.args.self.now (leaving life now c.args.self.now) (now ∷ [])) (sym l.2) (now_leave (sym c.if-not-is_to_leave.ensures) now), l.0, l.1, refl)
+    (leaving life now c.args.self.now, now ∷ [], subst (Leaves life c.args.idle c.args.self.now (leaving life now c.args.self.now) (now ∷ [])) (sym l.2) (now_leave (sym c.if-not-is_to_leave.ensures) now), l.0, l.1, refl)
 
 pub returns-in-Err-clause-err : goal.returns-in-Err-clause-err
 returns-in-Err-clause-err g c = let l = c.in-Err.ensures.err in (l.0, l.1, sym c.if-not-is_to_leave.ensures, l.2, l.3, l.4)
