@@ -6,3 +6,20 @@ mod Later
 mod Onwards
 -- a start that goes on with what a crash left
 mod Started
+-- one end of a world changes, and what was sent of it
+mod Ends
+-- what a host says to who sent it a datagram
+mod Saying
+-- an act of a server, and one of a host, is a run of the world
+mod ServerActs
+mod HostActs
+-- so are all lives of a network
+mod Lives
+-- what is known of the clocks along a wire
+mod Judging
+-- turns are acts
+mod HostTurns
+mod ServerTurns
+-- lives by a clock that shows a constant more, and a server's after a restart
+mod Restarts
+mod HostsLater

@@ -1,5 +1,5 @@
 -- A start that goes on with what a crash left.
-use Rattle.std.proofs.Common.{◌≡◌, ◌∙◌, ℕ, ◌+◌, ◌-◌, ◌≤◌, List, [], ◌∷◌, map, None, Ok, refl, sym, ap, subst, arith}
+use Rattle.std.proofs.Common.{◌≡◌, ◌∙◌, ℕ, ◌+◌, ◌-◌, ◌≤◌, List, [], ◌∷◌, map, None, Ok, refl, sym, ap, subst, arith, ◌++◌}
 use Rattle.std.specs.Borrow.{Bor}
 use Rattle.nbt_lease.specs.Config.{ConfigValue, IsConfig, last_moment}
 use Rattle.nbt_lease.specs.Lease.{Leases, Rows, is_live, leases_at, latest_end, IsSound}
@@ -158,7 +158,7 @@ module _ (kept_resumes : KeptResumes) (one : FileHasOneReading) (serves_past : S
       let whole : m + o.shift ≡ o.serves = omega (arith, shift) in
       let past = clock.1 in
       let told = clock.0.told in
-      let same = turns_keep e.front ran e.server e.run in
+      let same = turns_keep (e.front ++ e.asked) ran e.server e.run in
       let resumed =
       resumes_later kept_resumes alike e.server going.server (after_all left no_leases) loads.rows f.config h.start (t.last + o.shift) o.shift m e.leases loads.rows_are (found.config_is ∙ sym same.1) (found.start_is ∙ sym same.0) (subst IsConfig (sym found.config_is) limits)
       (omega (arith, past, whole)) (omega (arith, told, whole))

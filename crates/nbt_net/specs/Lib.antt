@@ -1,2 +1,9 @@
 pub mod Starts
 pub mod Clocks
+pub mod Wire
+pub mod Servers
+pub mod Hosts
+pub mod Lives
+pub mod Reaching
+pub mod Turns
+pub mod Restarts

@@ -1,6 +1,10 @@
-//! What a server is after a crash and a start, and what its clock reads: each law is the contract of a function that does nothing.
+//! A network of the programs' own acts is a run of a world; and what a server is after a crash and a start, and what its clock reads: each
+//! law is the contract of a function that does nothing.
 
-ghost use Rattle.std.specs.Prelude.{◌≡◌, ℕ, ◌+◌, ◌≤◌, Some, None};
+ghost use Rattle.std.specs.Prelude.{◌≡◌, ℕ, ◌+◌, ◌≤◌, ◌↔◌, List, Option, Some, None, IsTrue};
+ghost use Rattle.nbt_name.specs.declared.addr.Addr.{Addr};
+ghost use Rattle.nbt_lease.specs.Config.{ConfigValue};
+ghost use Rattle.nbt_node.specs.Node.{NodeValue};
 ghost use Rattle.nbt_server.specs.Calls.{ServerResumes};
 ghost use Rattle.nbt_server.specs.Serving.{ServerValue};
 ghost use Rattle.nbt_server.specs.Shifted.{shifted_server};
@@ -9,12 +13,93 @@ ghost use Rattle.nbt_store.specs.declared.header.Header.{Header};
 ghost use Rattle.nbt_store.specs.declared.silence.Seen.{Seen};
 ghost use Rattle.nbt_store.specs.declared.times.Times.{Times};
 ghost use Rattle.nbt_world.specs.Drift.{IsNotAhead};
+ghost use Rattle.nbt_world.specs.Safety.{AreTimely, KeepDriftBound};
 ghost use Rattle.nbt_world.specs.Shifted.{shifted_server_end};
 ghost use Rattle.nbt_world.specs.Step.{Resumes};
-ghost use Rattle.nbt_world.specs.World.{with_server};
+ghost use Rattle.nbt_world.specs.World.{WorldValue, AreAddrs, with_server};
 ghost use Rattle.nbt_world.specs.declared.ends.Ends.{Ends};
 ghost use Rattle.nbt_net.specs.Clocks.{counted, place_reads};
+ghost use Rattle.nbt_net.specs.Lives.{Network, NetworkIsARun, NoTwoHold};
+ghost use Rattle.nbt_net.specs.Reaching.{HostsActIsARun, ServersActIsARun};
+ghost use Rattle.nbt_net.specs.Restarts.{HostsLiveLater, LivesLater, RestartGoesOn};
+ghost use Rattle.nbt_net.specs.Servers.{ServerEnd};
 ghost use Rattle.nbt_net.specs.Starts.{StartResumesAnEarlierServer};
+ghost use Rattle.nbt_net.specs.Turns.{BrokenTurnsAreLived, CrashCutsALifeShort, HostTurnsAreLived, HostsLiveOn, ServerRunsAreLived, ServerTurnsAreLived};
+ghost use Rattle.nbt_net.specs.Wire.{Happening};
+
+/// What a server does at one reading of its clock is a run of the world, with what its port sends: it starts, resumes, takes a turn or fails in it, or crashes.
+pub fn a_servers_act_is_a_run()
+    ensures { ServersActIsARun }
+{}
+
+/// So is what a host does at one reading of its clock: it starts, requests a name or gives it back, polls, hears and replies, fails at one of these, or crashes. What it answers to a query moves no name, and the world has nothing of it.
+pub fn a_hosts_act_is_a_run()
+    ensures { HostsActIsARun }
+{
+    nbt_world::laws::every_run_is_safe();
+}
+
+/// A host's turn is acts of its life, at the looks at its clocks, with the calls of its port; so is a turn in which the device fails, and
+/// so are turns one after the other. Where the machine slept the host crashes and starts at that look.
+pub fn a_hosts_turn_is_lived()
+    ensures turn { HostTurnsAreLived }
+    ensures broken { BrokenTurnsAreLived }
+    ensures on { HostsLiveOn }
+{}
+
+/// A server's turns are acts of its life, each at its moment; and so are those of a run of a server that keeps its leases, whichever way it ends.
+pub fn a_servers_turns_are_lived()
+    ensures turns { ServerTurnsAreLived }
+    ensures runs { ServerRunsAreLived }
+{
+    nbt_serve::laws::servers_go_by_turns();
+}
+
+/// Whatever a crash leaves of a server that keeps its leases, after any call of its devices or within one that failed, is of a life that
+/// was cut short there. Each reply that has left was sent in that life; what else came is lost.
+pub fn a_crash_cuts_a_life_short()
+    ensures { CrashCutsALifeShort }
+{
+    nbt_serve::laws::a_crash_leaves_an_earlier_server();
+}
+
+/// By a clock that shows a constant more at each time, a host lives the same life, and calls its port alike, with each of its times so much later. A
+/// host starts and knows nothing. So each of its lives may be judged by a clock that differs by a constant of its own, as where its machine's
+/// clock began anew at a boot.
+pub fn a_host_lives_the_same_by_a_shifted_clock()
+    ensures { HostsLiveLater }
+{
+    nbt_node::laws::a_shifted_node_does_the_same();
+}
+
+/// By such a clock a server lives the same life too. So its life goes on over a crash and a start that finds what it left, by the clock of that start, over any number of crashes: by that clock the
+/// server resumes with the leases that it had, and what the crash cut off is no part of its life.
+pub fn a_life_goes_on_after_a_restart()
+    ensures later { LivesLater }
+    ensures restart { RestartGoesOn }
+{
+    nbt_server::laws::a_shifted_server_does_the_same();
+    a_start_resumes_an_earlier_server();
+}
+
+/// A network of programs is safe: from a wire on which nothing happened yet, through all that may happen, no two hosts hold one name, unless
+/// both as a group, at any time up to which the clocks were timely; and so at any up to which they kept the drift bound. `timely` and `kept`
+/// say exactly whether they were and did, between any two of the times. The network is a run of a world.
+pub fn lives_are_safe()
+    ensures run { (config : ConfigValue) (addrs : List Addr) (happenings : List Happening) (now : WorldValue) (server : ServerEnd) (hosts : ℕ → Option NodeValue)
+        → AreAddrs addrs → (net : Network config addrs happenings now server hosts) → NetworkIsARun net.first now hosts }
+    ensures timely { (config : ConfigValue) (addrs : List Addr) (happenings : List Happening) (now : WorldValue) (server : ServerEnd) (hosts : ℕ → Option NodeValue)
+        → AreAddrs addrs → Network config addrs happenings now server hosts → IsTrue now.timely → NoTwoHold now hosts }
+    ensures kept { (config : ConfigValue) (addrs : List Addr) (happenings : List Happening) (now : WorldValue) (server : ServerEnd) (hosts : ℕ → Option NodeValue)
+        → AreAddrs addrs → Network config addrs happenings now server hosts → IsTrue now.kept → NoTwoHold now hosts }
+    ensures told { (config : ConfigValue) (addrs : List Addr) (happenings : List Happening) (now : WorldValue) (server : ServerEnd) (hosts : ℕ → Option NodeValue)
+        → AreAddrs addrs → (net : Network config addrs happenings now server hosts) → (IsTrue now.timely ↔ AreTimely net.wires) × (IsTrue now.kept ↔ KeepDriftBound net.wires) }
+{
+    nbt_world::laws::every_run_is_safe();
+    nbt_world::laws::ids_and_early_refreshes_keep_the_facts();
+    nbt_world::laws::limits_keep_the_facts();
+    nbt_world::laws::facts_of_every_world();
+}
 
 /// A start that finds what a crash left of a run, and goes on, resumes an earlier server of that run, which knows of each reply that has
 /// left. All times of that server count as later by one constant; its live leases, its start and its limits are the same, and it serves

@@ -26,7 +26,7 @@ use Rattle.nbt_world.proofs.Exact.{Goes, Traced, traced_more, traced_first, Told
 
 -- ---- the clocks go on
 
-goes_on : {w v : WorldValue} {ms : ℕ} {moves : ℕ → ℕ} → Advances w ms moves v → AreRead w → Goes w v
+pub goes_on : {w v : WorldValue} {ms : ℕ} {moves : ℕ → ℕ} → Advances w ms moves v → AreRead w → Goes w v
 goes_on {w} {ms = ms} adv read = subst (λ (x : WorldValue). Goes w x) (sym adv.others) (record {
   clock = rw adv.now (goes_up w.now.clock ms read.now);
   read = read_on adv read;
@@ -46,7 +46,7 @@ no_lesser a b x y =
     λ i. record { ahead = p i; behind = q i }
 
 -- only ends and datagrams are others
-goes_with : (w : WorldValue) (ends : Ends) (sent : List Datagram) → ((n : ℕ) → addr_of ends n ≡ addr_of w.ends n) → AreRead w → Goes w (record w { ends = ends; sent = sent })
+pub goes_with : (w : WorldValue) (ends : Ends) (sent : List Datagram) → ((n : ℕ) → addr_of ends n ≡ addr_of w.ends n) → AreRead w → Goes w (record w { ends = ends; sent = sent })
 goes_with w ends sent same read = record {
   clock = omega arith;
   read = read_with w ends sent same read;
@@ -248,7 +248,7 @@ all_parts : (P : Event → Type 0) (xs : List Event) (x : Event) → All P (xs +
 all_parts P [] x all = (All-nil P, All-head P x [] all)
 all_parts P (y ∷ xs) x all = let rest = all_parts P xs x (All-tail P y (xs ++ x ∷ []) all) in (All-cons P y xs (All-head P y (xs ++ x ∷ []) all) rest.0, rest.1)
 
-along_more : {events : List Event} {old w v : WorldValue} {worlds : List WorldValue} {event : Event} {outcome : Outcome} → Step w event outcome v → (IsTrue v.timely → IsSafe v) → (IsTrue v.kept → IsSafe v) → Along events old worlds w
+pub along_more : {events : List Event} {old w v : WorldValue} {worlds : List WorldValue} {event : Event} {outcome : Outcome} → Step w event outcome v → (IsTrue v.timely → IsSafe v) → (IsTrue v.kept → IsSafe v) → Along events old worlds w
     → Along (events ++ event ∷ []) old (worlds ++ v ∷ []) v
 along_more {events} {w = w} {v} {worlds} {event} step timely safe is = record {
   safe_timely = All-push (λ x. IsTrue x.timely → IsSafe x) worlds v is.safe_timely timely;

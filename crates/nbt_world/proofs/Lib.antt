@@ -22,6 +22,7 @@ pub mod Safe
 pub mod Following
 pub mod Running
 pub mod Going
+pub mod Every
 pub mod Holding
 pub mod Apart
 pub mod Getting

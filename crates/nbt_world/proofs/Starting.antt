@@ -71,19 +71,24 @@ resumes_kept w ends kept (server_resumes was server down is resumes) =
         let k = kept.server was there in
         record { config_is = resumes.config ∙ k.config_is; past = resumes.called; sound = subst (λ (l : Leases). IsSound w.config (reading w.now 0) l) (sym resumes.leases) k.sound }
 
--- a limit of its clients changes no lease
+-- a limit of its clients changes no lease, and neither does lifting it
+pub limit_kept : (w : WorldValue) (server : ServerValue) (rows : Option ℕ) → Invariant w → w.ends.server ≡ Some server → Invariant (record w { ends = with_server w.ends (Some (limited rows server)) w.ends.crashed })
+limit_kept w server rows kept is =
+    server_changes w (Some (limited rows server)) w.ends.crashed w.sent kept (λ s e. subst (λ (x : ServerValue). IsServerOf w x) (same_Some (limited rows server) s e) as_kept)
+    (nothing_new w w.ends.server_addr) kept.replies (λ on. still_claims kept on there refl refl refl)
+  where
+    there : latest w.ends ≡ Some server
+    there = latest-up w.ends server is
+
+    as_kept : IsServerOf w (limited rows server)
+    as_kept = let k = kept.server server there in record { config_is = k.config_is; past = k.past; sound = k.sound }
+
 pub limited_kept : (w : WorldValue) (rows : ℕ) → Invariant w → Invariant (record w { ends = with_limit w.ends rows })
 limited_kept w rows kept = by_server w.ends.server refl
   where
-    as_kept : (server : ServerValue) → latest w.ends ≡ Some server → IsServerOf w (limited (Some rows) server)
-    as_kept server there = let k = kept.server server there in record { config_is = k.config_is; past = k.past; sound = k.sound }
-
     by_server : (server : Option ServerValue) → w.ends.server ≡ server → Invariant (record w { ends = with_server w.ends (option_map (limited (Some rows)) server) w.ends.crashed })
     by_server None is = same_kept w None w.ends.crashed (ap (λ (x : Option ServerValue). option_or x w.ends.crashed) (sym is)) kept
-    by_server (Some server) is =
-        let there : latest w.ends ≡ Some server = ap (λ (x : Option ServerValue). option_or x w.ends.crashed) is in
-        server_changes w (Some (limited (Some rows) server)) w.ends.crashed w.sent kept (λ s e. subst (λ (x : ServerValue). IsServerOf w x) (same_Some (limited (Some rows) server) s e) (as_kept server there))
-        (nothing_new w w.ends.server_addr) kept.replies (λ on. still_claims kept on there refl refl refl)
+    by_server (Some server) is = limit_kept w server (Some rows) kept is
 
 pub crashes_kept : (w : WorldValue) (number : ℕ) (ends : Ends) → Invariant w → Crashes w.ends number ends → Invariant (record w { ends = ends })
 crashes_kept w number ends kept (server_crashes server up) = same_kept w None (Some server) (sym (latest-up w.ends server up)) kept

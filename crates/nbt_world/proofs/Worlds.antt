@@ -61,12 +61,12 @@ pub record Gave (w : WorldValue) (event : Event) (number : ℕ) (ends : Ends) (s
 gave_world : {w : WorldValue} {event : Event} {number : ℕ} {ends : Ends} {sent : List Datagram} {outcome : Outcome} (g : Gave w event number ends sent outcome) → after w number g.new g.given ≡ record w { ends = ends; sent = sent }
 gave_world {w} {sent = sent} g = g.left ∙ ap (λ (x : Ends). record w { ends = x; sent = sent }) (sym g.ends_is)
 
+pub does_at : Laws → {w : WorldValue} {node new : NodeValue} {event : Event} {given : CallOutcomeValue} → Invariant w → (n : ℕ) → node_of w.ends n ≡ Some node → NodeDoes node (reading w.now n) event new given → Invariant (after w n new given)
+does_at law {node = node} kept zero up does = absurd (none-some node up)
+does_at law kept (suc i) up does = does_kept law.one_message (up_at law.rests i kept up) does
+
 pub gave_kept : Laws → {w : WorldValue} {event : Event} {number : ℕ} {ends : Ends} {sent : List Datagram} {outcome : Outcome} → Invariant w → Gave w event number ends sent outcome → Invariant (record w { ends = ends; sent = sent })
-gave_kept law {w} {event} {number} kept g = subst Invariant (gave_world g) (at number g.up g.does)
-  where
-    at : (n : ℕ) → node_of w.ends n ≡ Some g.node → NodeDoes g.node (reading w.now n) event g.new g.given → Invariant (after w n g.new g.given)
-    at zero up does = absurd (none-some g.node up)
-    at (suc i) up does = does_kept law.one_message (up_at law.rests i kept up) does
+gave_kept law {number = number} kept g = subst Invariant (gave_world g) (does_at law kept number g.up g.does)
 
 pub gave_step : {w : WorldValue} {event : Event} {number : ℕ} {ends : Ends} {sent : List Datagram} {outcome : Outcome} → Gave w event number ends sent outcome → Step w event outcome (record w { ends = ends; sent = sent })
 gave_step {w} {event} {number} {ends} {sent} g =

@@ -1,19 +1,24 @@
 //! What holds of every world, whatever the code does: laws over the definitions alone.
 
-ghost use Rattle.std.specs.Prelude.{◌≡◌, ◌≢◌, ℕ, ◌+◌, ◌*◌, ◌^◌, ◌<◌, ◌≤◌, max, suc, List, Some, IsTrue, length};
+ghost use Rattle.std.specs.Prelude.{◌≡◌, ◌≢◌, ℕ, ◌+◌, ◌*◌, ◌^◌, ◌<◌, ◌≤◌, max, suc, List, Option, Some, IsTrue, length};
 ghost use Rattle.nbt_name.specs.Wire.{NameValue, IsStar};
 ghost use Rattle.nbt_lease.specs.Config.{ConfigValue, IsConfig};
 ghost use Rattle.nbt_lease.specs.Drift.{KeepsDriftBound, quiet};
 ghost use Rattle.nbt_name.specs.declared.addr.Addr.{Addr};
+ghost use Rattle.nbt_server.specs.Calls.{limited};
+ghost use Rattle.nbt_server.specs.Serving.{ServerValue};
 ghost use Rattle.nbt_node.specs.Node.{NodeValue};
 ghost use Rattle.nbt_node.specs.Calls.{refreshing_soon};
-ghost use Rattle.nbt_world.specs.World.{WorldValue, addr_of, node_of, with_node, IsEnd, IsFresh};
+ghost use Rattle.nbt_world.specs.World.{WorldValue, addr_of, node_of, with_server, with_node, AreAddrs, IsEnd, IsFresh};
 ghost use Rattle.nbt_world.specs.Inner.Kept.{Invariant};
 ghost use Rattle.nbt_world.specs.Inner.Facts.{LeasesAreSound, ClaimsAreCovered, ClaimsAreOfGroups, OpenIsFresh, RequestsHaveEnded};
-ghost use Rattle.nbt_world.specs.Safety.{IsSafe, RunsSafely, holding};
+ghost use Rattle.nbt_world.specs.Safety.{IsSafe, Run, RunsSafely, holding};
+ghost use Rattle.nbt_world.specs.Clocks.{RunsByClocks};
 ghost use Rattle.nbt_name.specs.declared.addr.Kind.{Kind};
-ghost use Rattle.nbt_world.specs.Drift.{IsNotAhead};
-ghost use Rattle.nbt_world.specs.Step.{Step};
+ghost use Rattle.nbt_world.specs.declared.ends.Ends.{Ends};
+ghost use Rattle.nbt_world.specs.Drift.{IsNotAhead, reading};
+ghost use Rattle.nbt_world.specs.Inner.Handing.{Origin};
+ghost use Rattle.nbt_world.specs.Step.{Step, TakenValue, EndTakes, after_taking};
 ghost use Rattle.nbt_world.specs.Getting.{CanGet};
 ghost use Rattle.nbt_world.specs.Shifted.{NodesDoAlike, ServersDoAlike};
 ghost use Rattle.nbt_world.specs.Users.{LetsCallIn, ServesUsers, ServeUsersAsGroup, ServeUsersWhileKept, ServeUsersWhileTimely};
@@ -37,6 +42,35 @@ pub fn facts_of_every_world()
     nbt_lease::laws::rest_outlasts_datagrams();
 }
 
+/// Every run that the model allows is safe while its readings are timely, and not only a run that `World::run` makes. A new world keeps
+/// the facts, where its addresses are two to nine and distinct, and each step keeps them; so does whatever an end makes of octets that
+/// come to it, in which of the ways in which they may (`takes`). So a run from a world that keeps them has all
+/// that `World::run` promises: each world up to which the readings were timely is safe, and so is each up to which they kept the drift
+/// bound. From a new world nothing else is asked, and `timely` and `kept` say exactly whether the readings were so.
+pub fn every_run_is_safe()
+    ensures fresh { (config : ConfigValue) (addrs : List Addr) (world : WorldValue)
+        → AreAddrs addrs → IsFresh config addrs world → Invariant world }
+    ensures step { (old new : WorldValue) (event : Event) (outcome : Outcome)
+        → Invariant old → Step old event outcome new → Invariant new }
+    ensures takes { (world : WorldValue) (number : ℕ) (from to : Addr) (octets : List ℕ) (taken : TakenValue) (ends : Ends)
+        → Invariant world → addr_of world.ends number ≡ Some to → Origin world from to octets → EndTakes (reading world.now number) world.ends from octets number taken ends → Invariant (after_taking world ends to from taken) }
+    ensures run { (events : List Event) (old new : WorldValue) (worlds : List WorldValue)
+        → Invariant old → Run events old worlds new → RunsSafely old worlds new }
+    ensures by_clocks { (events : List Event) (old new : WorldValue) (worlds : List WorldValue)
+        → Invariant old → Run events old worlds new → RunsByClocks events old worlds new }
+    ensures anew { (config : ConfigValue) (addrs : List Addr) (events : List Event) (old new : WorldValue) (worlds : List WorldValue)
+        → AreAddrs addrs → IsFresh config addrs old → Run events old worlds new → RunsSafely old worlds new }
+{
+    nbt_packet::laws::one_message_spelled();
+    nbt_lease::laws::leases_stay_sound();
+    nbt_lease::laws::later_leases_live_now();
+    nbt_lease::laws::one_name_changes();
+    nbt_lease::laws::leases_of_others_stay();
+    nbt_lease::laws::granted_lease_stands();
+    nbt_lease::laws::hold_ends_first();
+    nbt_lease::laws::rest_outlasts_datagrams();
+}
+
 /// The facts that every world keeps, from which its safety follows, speak neither of the id of a node's next request nor of when a
 /// refresh is due. So a world keeps them too where a node of it counts its ids from another one, as a node does that is started by
 /// `Node::start_from`, or has a name refreshed before its time, by `Node::refresh_soon`: neither is an event of a world.
@@ -48,6 +82,12 @@ pub fn ids_and_early_refreshes_keep_the_facts()
 {
     nbt_lease::laws::rest_outlasts_datagrams();
 }
+
+/// A world keeps its facts too where the server gives its clients a limit, or lifts it: which leases live stays the same.
+pub fn limits_keep_the_facts()
+    ensures { (world : WorldValue) (server : ServerValue) (rows : Option ℕ) → Invariant world → world.ends.server ≡ Some server
+        → Invariant (record world { ends = with_server world.ends (Some (limited rows server)) world.ends.crashed }) }
+{}
 
 /// A node gets a free name as soon as its request and the reply arrive: where the name can be got, whatever worlds the three
 /// events lead to, the node holds the name in the last, unless the server was out of memory for the request.

@@ -1,0 +1,44 @@
+-- The life of a name server, act by act (our profile).
+use Rattle.std.specs.Prelude.{◌≡◌, ℕ, List, [], Option, Some, None}
+use Rattle.std.specs.List.{AllByRecursion}
+use Rattle.nbt_lease.specs.Config.{ConfigValue}
+use Rattle.nbt_server.specs.Serving.{ServerValue}
+use Rattle.nbt_server.specs.Calls.{ServerStarts, ServerResumes, limited}
+use Rattle.nbt_serve.specs.Serving.{Turn, acts_in as calls_in, moments_in, Turns, Failure, acts_of as calls_of, moments_of, Fails}
+use Rattle.nbt_net.specs.Wire.{Act}
+
+-- The server never was up; it is up; or it is down, and was so.
+pub data ServerEnd : Type 0 where
+  never_up : ServerEnd
+  up : ServerValue → ServerEnd
+  down : (was : ServerValue) → ServerEnd
+
+-- what it is while it is up, and what it was when it went down
+abbrev pub up_of : ServerEnd → Option ServerValue
+up_of never_up = None
+up_of (up server) = Some server
+up_of (down was) = None
+
+abbrev pub was_of : ServerEnd → Option ServerValue
+was_of never_up = None
+was_of (up server) = None
+was_of (down was) = Some was
+
+-- an act that calls no port
+abbrev pub act_at : (now : ℕ) → Act
+act_at now = record { now = now; calls = [] }
+
+-- the clock was read at this moment, if it was read
+abbrev pub AreReadAt : (now : ℕ) → (moments : List ℕ) → Type 0
+AreReadAt now moments = AllByRecursion (λ moment. moment ≡ now) moments
+
+-- A server starts and knows nothing; or it resumes, with the leases that it had. It has another limit for its clients, or none. It goes
+-- through a turn, or the device fails in it; a reply is sent at its turn, or later, while it may still come, or never. And it crashes.
+pub data ServerLives (config : ConfigValue) : ServerEnd → Act → ServerEnd → Type 0 where
+  starts : (now : ℕ) (server : ServerValue) → ServerStarts config now server → ServerLives config never_up (act_at now) (up server)
+  starts_anew : (now : ℕ) (was server : ServerValue) → ServerStarts config now server → ServerLives config (down was) (act_at now) (up server)
+  resumes : (now : ℕ) (was server : ServerValue) → ServerResumes was now server → ServerLives config (down was) (act_at now) (up server)
+  has_limit : (now : ℕ) (rows : Option ℕ) (server : ServerValue) → ServerLives config (up server) (act_at now) (up (limited rows server))
+  takes_turn : (now : ℕ) (turn : Turn) (old new : ServerValue) → AreReadAt now (moments_in turn) → Turns old turn new → ServerLives config (up old) (record { now = now; calls = calls_in turn }) (up new)
+  breaks_turn : (now : ℕ) (failure : Failure) (old new : ServerValue) → AreReadAt now (moments_of failure) → Fails old failure new → ServerLives config (up old) (record { now = now; calls = calls_of failure }) (up new)
+  crashes : (now : ℕ) (server : ServerValue) → ServerLives config (up server) (act_at now) (down server)
