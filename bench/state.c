@@ -94,7 +94,7 @@ static struct child start(const char *program, uint16_t port, const char *folder
     if (pid == 0) {
         prctl(PR_SET_PDEATHSIG, SIGTERM); /* it ends with this program */
         dup2(ends[1], STDOUT_FILENO);
-        execl(program, "nbt", "nbns", "--bind", bind_to, "--longest", "60s", folder ? "--state" : (char *)NULL, folder, (char *)NULL);
+        execl(program, "nbt", "nbns", "--bind", bind_to, "--longest", "60s", folder ? "--state" : (char *)NULL, folder, "--changes-per-client", "0", (char *)NULL);
         fail(program);
     }
     close(ends[1]);

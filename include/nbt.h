@@ -328,8 +328,9 @@ enum {
  *
  * Why a name comes and goes: `seconds` of GRANTED below what was asked for, which is the node's `longest` where that was 0, says that
  * the server's longest lease is shorter than the node's, though both are to be the same. Where the seconds are no more than some two
- * `life`, the hold ends before a refresh may be sent: the state goes from HELD to RESTING or IDLE each time, without an event. That the
- * server's longest lease is greater doesn't show.
+ * `life`, the hold ends before a refresh may be sent: the state goes from HELD to RESTING or IDLE each time, without an event. A server
+ * whose longest lease is greater makes no name come and go. No event says that it is; the reply to a request for 0 seconds does: its TTL,
+ * four octets with the greatest first, stands 4 behind the place that nbt_name_in_packet(octets, octets_size, 12, ..) leaves.
  *
  * An entry of FOUND is two octets of flags, of which the first bit says that a group has the name, and four of an address, as 10 0 0 5
  * (RFC 1002 section 4.2.13); a name of STATUS sixteen octets, and two of flags (section 4.2.18).

@@ -79,9 +79,12 @@ static void run_there(void (*function)(void)) {
                      : "r"(stack + sizeof stack), "r"(function)
                      : "r0", "r1", "r2", "r3", "r4", "ip", "lr", "cc", "memory");
 }
-#else
+#elif defined(__riscv)
 static void run_there(void (*function)(void)) {
-    function();
+    __asm__ volatile("mv s1, sp\n mv sp, %0\n jalr %1\n mv sp, s1"
+                     :
+                     : "r"(stack + sizeof stack), "r"(function)
+                     : "s1", "ra", "t0", "t1", "t2", "t3", "t4", "t5", "t6", "a0", "a1", "a2", "a3", "a4", "a5", "a6", "a7", "memory");
 }
 #endif
 
