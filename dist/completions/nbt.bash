@@ -3,7 +3,7 @@
 
 _nbt() {
     local word=${COMP_WORDS[COMP_CWORD]} before=${COMP_WORDS[COMP_CWORD - 1]} given words='' reply again
-    local commands='lookup status nbns host release scan answer show check sim serve node loop help' arguments=0
+    local commands='lookup status nbns host release scan import leases answer show check sim serve node loop help' arguments=0
     COMPREPLY=()
 
     # bash has `--leases=file` as three words.
@@ -15,7 +15,7 @@ _nbt() {
     # --hosts has a file as its value with nbns, and none with scan.
     [[ $before != --hosts || ${COMP_WORDS[1]} != nbns ]] || before=--leases
     case $before in
-    --at | --rate | --port | --server | --bind | --scope | --wait | --life | --longest | --for | --rows-per-client | --allow | --group | --also) return ;;
+    --at | --rate | --port | --server | --bind | --scope | --wait | --life | --longest | --for | --rows-per-client | --changes-per-client | --allow | --group | --also) return ;;
     --leases | --stats | --fixed)
         compopt -o filenames 2>/dev/null
         mapfile -t COMPREPLY < <(compgen -f -- "$word")
@@ -24,6 +24,10 @@ _nbt() {
     --state)
         compopt -o filenames 2>/dev/null
         mapfile -t COMPREPLY < <(compgen -d -- "$word")
+        return
+        ;;
+    --from)
+        mapfile -t COMPREPLY < <(compgen -W 'wins.dat lmhosts nbtscan list' -- "$word")
         return
         ;;
     --tries)
@@ -44,13 +48,15 @@ _nbt() {
         case ${COMP_WORDS[1]} in
         lookup) words='--server --scope --exact --tries --wait --bind --help' ;;
         status) words='--also --scope --exact --tries --wait --bind --help' ;;
-        nbns) words='--bind --life --longest --for --log --log-broadcasts --leases --hosts --stats --strict --rows-per-client --allow --fixed --state --silent-after-boot --help' ;;
-        host | release) words='--server --bind --group --scope --exact --life --longest --for --log --help' ;;
+        nbns) words='--bind --life --longest --for --log --log-broadcasts --leases --hosts --stats --strict --rows-per-client --allow --fixed --state --silent-after-boot --changes-per-client --check --help' ;;
+        host | release) words='--server --one-table --bind --group --scope --exact --life --longest --for --log --help' ;;
         scan)
             words='--rate --tries --wait --port --bind --sorted --progress --help'
             # Of these a scan takes one.
             [[ " ${COMP_WORDS[*]:2:COMP_CWORD-2} " =~ ' '--(long|hosts|json)' ' ]] || words+=' --long --hosts --json'
             ;;
+        import) words='--from --help' ;;
+        leases) words='--json --help' ;;
         answer) words='--at --help' ;;
         show) words='--explain --help' ;;
         serve | node) words='--forever --help' ;;
@@ -63,6 +69,15 @@ _nbt() {
         node:6) words+=' unique group' ;;
         esac
     fi
+
+    # Files, behind the options, as many as import reads, and one of leases.
+    case ${COMP_WORDS[1]}:$arguments:$word in
+    import:*:-* | leases:*:-*) ;;
+    import:* | leases:1:*)
+        compopt -o filenames 2>/dev/null
+        mapfile -t COMPREPLY < <(compgen -f -- "$word")
+        ;;
+    esac
 
     # An option that is given isn't offered again, except these.
     again=' --group --allow --also '
