@@ -66,7 +66,7 @@ class Server(Running):
     """A name server that keeps its leases in a folder, at an address of its own. `around` are the words of a command that starts it."""
 
     def __init__(self, nbt, address, folder, longest=LONGEST, words=(), around=(), **how):
-        kept = ["--life", LIFE, "--longest", f"{longest}s", "--state", folder]
+        kept = ["--life", LIFE, "--longest", f"{longest}s", "--state", folder, "--changes-per-client", "0"]
         super().__init__([*around, nbt, "nbns", "--bind", address, *kept, *words], **how)
 
     def line(self):
