@@ -21,6 +21,7 @@ LOG = re.compile(
     rf"|{TIME} \.\. \d+ more (?:granted|renewed|refused|released|release refused|unanswered|foreign|malformed|broadcast)"
     r"|\.\. \d+ lines dropped: the reader of the log was slow, or it could not be written"
     rf"|nbt: refused {NAME} {ADDRESS}: (?:a fixed name|not allowed)(?:, \d+ left out before)?"
+    rf"|nbt: requests lost: \d+, the last from {ADDRESS}; a client may make \d+ changes a second"
     rf"|serving {ADDRESS}:\d+(?:, {ADDRESS}:\d+)*(?:, with \d+ leases? kept)?(?:, silent for \d+ s until {TIME}(?:, since nothing was kept)?)?"
 )
 HELP, VALUE = r"# HELP nbt_nbns_[a-z_]+ [ -~]+|# TYPE nbt_nbns_[a-z_]+ (?:counter|gauge)", r"\d+(?:\.\d+)?"
