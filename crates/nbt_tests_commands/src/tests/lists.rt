@@ -204,7 +204,7 @@ fn files_of_the_system(rt: HostRuntime) {
     let folder = env::temp_dir(&rt).expect(&rt, "a folder for temporary files");
     let folder = folder.as_path().to_str().expect(&rt, "a folder as text");
     let id = process::id(rt.process());
-    let path = format!(in rt.alloc(); "{folder}/nbt-tests-{id}-list").expect(&rt, "memory");
+    let path = format!(in rt.alloc(); "{folder}/nbt-tests-{id}-listed").expect(&rt, "memory");
     for (line, text, status, printed, said) in &FILES {
         fs::write(&rt, path.as_str(), *text).expect(&rt, "a file");
         expect_file(&rt, &rt, (*line, *status, *printed, *said), path.as_str());

@@ -253,7 +253,9 @@ fn expect_marked<R: Abort + AllocGlobal>(rt: &R, lines: Lines, line: &str, mark:
     let mut pipe = Pipe::full(rt.alloc());
     pipe.room = 500;
     let mut writer = JournalWriter::new(rt.alloc(), lines, pipe);
-    let (front, rest) = line.as_bytes().split_at(1.min(line.len().saturating_sub(1)));
+    let (front, rest) = line
+        .as_bytes()
+        .split_at(1.min(line.len().saturating_sub(1)));
     let is_taken = writer.write_all(front).is_ok() && writer.write_all(rest).is_ok();
     expect_eq(rt, &line, &is_taken, &true);
     let expected = format!(in rt.alloc(); "{mark}{line}").expect(rt, "memory");
