@@ -5,6 +5,7 @@ use nbt_name::Name;
 use std::process::Abort;
 
 mod calls;
+mod confirming;
 mod datagrams;
 mod expect;
 mod leases;
