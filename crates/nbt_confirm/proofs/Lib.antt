@@ -14,3 +14,5 @@ pub mod Outcomes
 pub mod Hearing
 -- the addresses of a list that is full
 pub mod Listing
+-- what octets claim
+pub mod Claimed

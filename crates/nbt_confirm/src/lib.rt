@@ -9,6 +9,7 @@
 //! and end by the server's rules alone.
 #![tactic(auto)]
 
+mod deciding;
 mod further;
 mod inquiry;
 pub mod laws;
@@ -19,6 +20,7 @@ mod response;
 mod waits;
 mod wire;
 
+pub use deciding::{asks_first, held_back, request_of};
 pub use further::{FURTHER_MOST, Further, FurtherAddresses, NAME_MOST, Put};
 pub use inquiry::{Inquiry, NAME_PORT, write_inquiry};
 pub use machine::{Confirmed, Machine};

@@ -8,11 +8,14 @@ use super::expect::{expect_eq_in, expect_in};
 use arrayvec::ArrayVec;
 use nbt_confirm::{
     Answer, Awaits, FurtherAddresses, Machine, NAME_PORT, Outcome, Put, Request, Served, Silence,
-    Taken, WAITS_MOST, Waits, laws, outcome_of, wait_seconds, write_wait,
+    Taken, WAITS_MOST, Waits, asks_first, held_back, laws, outcome_of, request_of, wait_seconds,
+    write_wait,
 };
 use nbt_lease::Moment;
 use nbt_name::{Addr, Kind, Name};
-use nbt_testing::octets;
+use nbt_packet::{Message, read};
+use nbt_server::Server;
+use nbt_testing::{FIRST, QUERY, REFRESH, REGISTRATION, RIVAL, SECOND, octets, started};
 use std::process::Abort;
 
 const NODEM: &[u8; 16] = b"NODEM           ";
@@ -241,7 +244,7 @@ fn asking<R: Abort + AllocGlobal>(rt: &R) -> Asking {
     }
 }
 
-fn request_of(rt: &impl Abort, asks: Asks) -> Request {
+fn request_in(rt: &impl Abort, asks: Asks) -> Request {
     let (ip, id, name, addr, awaits, asked) = asks;
     Request {
         from: Addr {
@@ -329,7 +332,7 @@ impl Asking {
     fn pass(&mut self, rt: &impl Abort, step: Step) {
         match step {
             Step::Take(asks, wanted) => {
-                let taken = self.waits.take(request_of(rt, asks));
+                let taken = self.waits.take(request_in(rt, asks));
                 expect_eq_in(rt, &asks.1, &taken, &wanted);
             }
             Step::GiveUp(now, is) => {
@@ -475,4 +478,135 @@ fn what_comes_of_answers(rt: HostRuntime) {
     let outcome = outcome_of(Awaits::Requester, Answer::Silent);
     expect_eq_in(&rt, &"silent", &outcome, &Outcome::Refuse);
     expect_eq_in(&rt, &"waits", &WAITS_MOST, &256);
+}
+
+/// What a server is asked at 60,000 and later, by which address: which address's answer the request waits for, once the server refused it,
+/// and, as one of OPCODE 15, what it would wait for before.
+type Asked = (u32, &'static str, Option<u32>, Option<Awaits>);
+
+const ASKED: [Asked; 11] = [
+    (FIRST, REGISTRATION, None, Some(Awaits::Sender)),
+    (SECOND, RIVAL, Some(FIRST), None),
+    (FIRST, RIVAL, None, Some(Awaits::Source)),
+    (FIRST, REFRESH, None, None),
+    (SECOND, QUERY, None, None),
+    (
+        SECOND,
+        "0001 2900 two-parts FRED NB again NB 60s group 127.0.0.3",
+        None,
+        None,
+    ),
+    (
+        FIRST,
+        "0002 2900 two-parts TEAM NB again NB 60s group 127.0.0.2",
+        None,
+        Some(Awaits::Sender),
+    ),
+    (
+        FIRST,
+        "0003 2900 two-parts TEAM NB again NB 60s group 127.0.0.2",
+        None,
+        None,
+    ),
+    (
+        SECOND,
+        "0004 2900 two-parts TEAM NB again NB 60s unique 127.0.0.3",
+        None,
+        None,
+    ),
+    (
+        SECOND,
+        "0005 2900 two-parts TEAM NB again NB 60s group 127.0.0.3",
+        None,
+        Some(Awaits::Sender),
+    ),
+    (
+        SECOND,
+        "0006 4000 two-parts FRED NB again NB 60s unique 127.0.0.3",
+        Some(FIRST),
+        None,
+    ),
+];
+
+/// What the octets would wait for as a request of OPCODE 15.
+fn first_of(rt: &impl Abort, server: &Server, from: Addr, came: &[u8]) -> Option<Awaits> {
+    match read(came)? {
+        Message::Registration(claim) | Message::Refresh(claim) => {
+            let awaits = asks_first(server.table(), server.last(), from, &claim)?;
+            let request = request_of(from, 0x7900, &claim, awaits, from.ip);
+            expect_eq_in(rt, &awaits, &request.awaits, &awaits);
+            Some(awaits)
+        }
+        _ => None,
+    }
+}
+
+/// The server handles it, and the request waits so.
+fn ask<R: Abort + AllocGlobal>(rt: &R, server: &mut Server, row: &Asked) {
+    let (ip, text, wanted, first) = *row;
+    let from = Addr {
+        ip,
+        port: NAME_PORT,
+    };
+    let came = octets(rt, text).expect(rt, "octets");
+    expect_eq_in(
+        rt,
+        row,
+        &first_of(rt, server, from, came.as_slice()),
+        &first,
+    );
+    let mut out = ArrayVec::new();
+    let now = server.last();
+    let outcome = server
+        .handle(now, from, came.as_slice(), &mut out)
+        .ok()
+        .expect(rt, "a reply");
+    let request = held_back(
+        server.table(),
+        server.last(),
+        from,
+        came.as_slice(),
+        &outcome,
+    );
+    let asked = request.as_ref().map(|request| request.asked);
+    expect_eq_in(rt, row, &asked, &wanted);
+    if let Some(request) = request {
+        expect_in(
+            rt,
+            row,
+            request.awaits == Awaits::Holder && request.addr == SECOND,
+        );
+        expect_in(
+            rt,
+            row,
+            came.as_slice().starts_with(&request.id.to_be_bytes()),
+        );
+        expect_eq_in(
+            rt,
+            row,
+            &&came.as_slice()[2..4],
+            &request.flags.to_be_bytes().as_slice(),
+        );
+    }
+}
+
+fn ask_all<R: Abort + AllocGlobal>(rt: &R, server: &mut Server) {
+    let mut out = ArrayVec::new();
+    let from = Addr {
+        ip: FIRST,
+        port: NAME_PORT,
+    };
+    expect_in(
+        rt,
+        &"later",
+        server.handle(at(rt, 60_000), from, b"", &mut out).is_ok(),
+    );
+    for row in &ASKED {
+        ask(rt, server, row);
+    }
+}
+
+#[test]
+fn a_server_says_whose_answer_a_request_waits_for(rt: HostRuntime) {
+    ask_all(&rt, &mut started(&rt, 4096, 0).expect(&rt, "a server"));
 }
