@@ -235,7 +235,7 @@ struct Asking {
     served: Option<Served>,
 }
 
-fn asking<R: Abort + AllocGlobal>(rt: &R) -> Asking {
+fn nothing_waits<R: Abort + AllocGlobal>(rt: &R) -> Asking {
     Asking {
         waits: Waits::new(rt.alloc()).expect(rt, "memory"),
         machine: None,
@@ -372,7 +372,7 @@ fn play<R: Abort + AllocGlobal>(rt: &R, asking: &mut Asking, steps: &[Step]) {
 fn machines_that_are_asked(rt: HostRuntime) {
     for (about, steps) in EXCHANGES {
         expect_in(&rt, about, !steps.is_empty());
-        play(&rt, &mut asking(&rt), steps);
+        play(&rt, &mut nothing_waits(&rt), steps);
     }
 }
 
@@ -439,7 +439,7 @@ fn happen(rt: &impl Abort, further: &mut FurtherAddresses, machine: &Machine, ha
 
 #[test]
 fn a_further_address_is_listed_as_long_as_its_holder(rt: HostRuntime) {
-    let mut asking = asking(&rt);
+    let mut asking = nothing_waits(&rt);
     play(
         &rt,
         &mut asking,
