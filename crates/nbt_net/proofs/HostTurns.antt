@@ -114,7 +114,7 @@ both : {A : Type 0} {xs ys zs ws : List A} → xs ≡ zs → ys ≡ ws → xs ++
 both p q = λ j. p j ++ q j
 
 -- The node of a host did this at one moment: these acts, with these calls.
-record Does (config : ConfigValue) (server at : Addr) (now : ℕ) (old : NodeValue) (calls : List PortCall) (new : NodeValue) : Type 0 where
+pub record Does (config : ConfigValue) (server at : Addr) (now : ℕ) (old : NodeValue) (calls : List PortCall) (new : NodeValue) : Type 0 where
   pub acts : List Act
   pub lives : Chain (HostLives config server at) (Some old) acts (Some new)
   pub at_now : AllByRecursion (λ act. act.now ≡ now) acts
@@ -122,10 +122,10 @@ record Does (config : ConfigValue) (server at : Addr) (now : ℕ) (old : NodeVal
   pub addr_is : new.addr ≡ old.addr
 
 module _ {config : ConfigValue} {server at : Addr} {now : ℕ} where
-  does_nothing : (node : NodeValue) → Does config server at now node [] node
+  pub does_nothing : (node : NodeValue) → Does config server at now node [] node
   does_nothing node = record { acts = []; lives = refl; at_now = tt; calls_are = refl; addr_is = refl }
 
-  does_one : {old new : NodeValue} (calls : List PortCall) → HostActs server now old calls new → Does config server at now old calls new
+  pub does_one : {old new : NodeValue} (calls : List PortCall) → HostActs server now old calls new → Does config server at now old calls new
   does_one {old} {new} calls does = record {
     acts = record { now = now; calls = calls } ∷ [];
     lives = chain_one (HostLives config server at) (Some old) (record { now = now; calls = calls }) (Some new) (hosts.does now calls old new does);
@@ -134,7 +134,7 @@ module _ {config : ConfigValue} {server at : Addr} {now : ℕ} where
     addr_is = acts_keep does;
   }
 
-  does_both : {old mid new : NodeValue} {xs ys : List PortCall} → Does config server at now old xs mid → Does config server at now mid ys new → Does config server at now old (xs ++ ys) new
+  pub does_both : {old mid new : NodeValue} {xs ys : List PortCall} → Does config server at now old xs mid → Does config server at now mid ys new → Does config server at now old (xs ++ ys) new
   does_both {old} {mid} {new} a b = record {
     acts = a.acts ++ b.acts;
     lives = chain-append (HostLives config server at) (Some old) (Some mid) (Some new) a.acts b.acts a.lives b.lives;
@@ -143,21 +143,21 @@ module _ {config : ConfigValue} {server at : Addr} {now : ℕ} where
     addr_is = b.addr_is ∙ a.addr_is;
   }
 
-  all_requested : {old new : NodeValue} {goals : List Goal} {calls : List PortCall} → RequestsAll server now old goals calls new → Does config server at now old calls new
+  pub all_requested : {old new : NodeValue} {goals : List Goal} {calls : List PortCall} → RequestsAll server now old goals calls new → Does config server at now old calls new
   all_requested {old} of_none = does_nothing old
   all_requested (of_next goals goal calls request mid new before last) = does_both (all_requested before) (does_one _ (hosts.requests goal request new last))
 
-  requests_broken : {old new : NodeValue} {goals : List Goal} {calls : List PortCall} → BreaksRequests server now old goals calls new → Does config server at now old calls new
+  pub requests_broken : {old new : NodeValue} {goals : List Goal} {calls : List PortCall} → BreaksRequests server now old goals calls new → Does config server at now old calls new
   requests_broken (at_request goals rest goal calls octets mid new before last) = does_both (all_requested before) (does_one _ (hosts.loses_request goal octets new last))
 
   polls_done : (calls : List PortCall) {old new : NodeValue} → Chain (PollsTo now) old calls new → Does config server at now old calls new
   polls_done [] {old} chain = subst (λ (n : NodeValue). Does config server at now old [] n) (sym chain) (does_nothing old)
   polls_done (call ∷ calls) chain = does_both (does_one (call ∷ []) (hosts.polls call chain.0 chain.1)) (polls_done calls chain.2)
 
-  all_polled : {old new : NodeValue} {calls : List PortCall} → PollsAll now old calls new → Does config server at now old calls new
+  pub all_polled : {old new : NodeValue} {calls : List PortCall} → PollsAll now old calls new → Does config server at now old calls new
   all_polled {old} {new} {calls} p = subst (λ (cs : List PortCall). Does config server at now old cs new) (append-nil calls) (does_both (polls_done calls p.polls) (does_one [] (hosts.ends_polls new p.ends)))
 
-  polls_broken : {old new : NodeValue} {calls : List PortCall} → BreaksPolls now old calls new → Does config server at now old calls new
+  pub polls_broken : {old new : NodeValue} {calls : List PortCall} → BreaksPolls now old calls new → Does config server at now old calls new
   polls_broken (at_send polling mid new to octets chain poll) = does_both (polls_done polling chain) (does_one _ (hosts.loses_poll to octets new poll))
 
 -- ---- looks, at which the machine may have slept
@@ -169,7 +169,7 @@ pass : {A : Type 0} (b : Bool) (x y : A) → b ≡ false → (if b then x else y
 pass b x y is = rw is refl
 
 -- a host whose machine slept crashed, and started at that look
-wakes_up : (t : Terms) (look : Look) (host : HostValue) → t.slots ≡ slots_most → Does t.config t.server host.node.addr look.at host.node [] (woken t look host).node
+pub wakes_up : (t : Terms) (look : Look) (host : HostValue) → t.slots ≡ slots_most → Does t.config t.server host.node.addr look.at host.node [] (woken t look host).node
 wakes_up t look host slots = elim (cases_Bool look.slept) [
   | inl slept ↦ subst (λ (n : NodeValue). Does t.config t.server host.node.addr look.at host.node [] n) (sym (ap (λ (h : HostValue). h.node) (pick look.slept _ host slept))) begins_anew
   | inr awake ↦ subst (λ (n : NodeValue). Does t.config t.server host.node.addr look.at host.node [] n) (sym (ap (λ (h : HostValue). h.node) (pass look.slept _ host awake))) (does_nothing host.node)

@@ -23,3 +23,17 @@ mod ServerTurns
 -- lives by a clock that shows a constant more, and a server's after a restart
 mod Restarts
 mod HostsLater
+-- calls of several devices in one order, and parts of a life with them
+mod Ordering
+mod Parts
+-- a life that is cut off
+mod Cutting
+-- all turns of what stays up
+mod Staying
+-- a host's turns with its devices, and a whole host
+mod HostParts
+mod HostWhole
+-- a server over any number of crashes
+mod Again
+-- what stands before a server
+mod Fronting

@@ -9,7 +9,8 @@ use Rattle.nbt_store.specs.Silence.{bears_out, by_form, by_new_clock, by_other_c
 use Rattle.nbt_store.specs.Times.{times_after, times_after_all}
 use Rattle.nbt_store.specs.declared.change.Change.{Change}
 use Rattle.nbt_store.specs.declared.change.Change.TheVariants.{Began, Moved, Released, Reached, Looked}
-use Rattle.nbt_store.specs.declared.form.Form.TheVariants.{Three}
+use Rattle.nbt_store.specs.declared.form.Form.{Form}
+use Rattle.nbt_store.specs.declared.form.Form.TheVariants.{Two, Three}
 use Rattle.nbt_store.specs.declared.header.Header.{Header}
 use Rattle.nbt_store.specs.declared.silence.Onward.{Onward}
 use Rattle.nbt_store.specs.declared.silence.Seen.{Seen}
@@ -51,26 +52,29 @@ is_so : (test : Bool) → not test ≡ false → test ≡ true
 is_so true is = refl
 is_so false is = absurd cc
 
-other_clock : (h : Header) (times : Times) (seen : Seen) (silent : Bool) (o : Onward) → by_other_clock Three h times seen silent ≡ Ok o → o ≡ by_new_clock h times seen
-other_clock h times seen silent o is =
-    let one = passed_over (silent && not (bytes_eq h.boot seen.boot.now)) why.OtherBoot (if silent then Err why.Apart else by_form Three h times seen) o is in
-    let two = passed_over silent why.Apart (by_form Three h times seen) o one.1 in
-    let found = two.1 in
-    cc
+by_either_form : (form : Form) (h : Header) (times : Times) (seen : Seen) (o : Onward) → by_form form h times seen ≡ Ok o → o ≡ by_new_clock h times seen
+by_either_form Two h times seen o is = absurd cc
+by_either_form Three h times seen o is = cc
 
-same_or_other : (h : Header) (times : Times) (seen : Seen) (silent : Bool) (o : Onward) → ((is_same_clock h times seen ≡ true) × (o ≡ by_same_clock h times seen)) ⊎ (by_other_clock Three h times seen silent ≡ Ok o)
+other_clock : (form : Form) (h : Header) (times : Times) (seen : Seen) (silent : Bool) (o : Onward) → by_other_clock form h times seen silent ≡ Ok o → o ≡ by_new_clock h times seen
+other_clock form h times seen silent o is =
+    let one = passed_over (silent && not (bytes_eq h.boot seen.boot.now)) why.OtherBoot (if silent then Err why.Apart else by_form form h times seen) o is in
+    let two = passed_over silent why.Apart (by_form form h times seen) o one.1 in
+    by_either_form form h times seen o two.1
+
+same_or_other : (form : Form) (h : Header) (times : Times) (seen : Seen) (silent : Bool) (o : Onward) → ((is_same_clock h times seen ≡ true) × (o ≡ by_same_clock h times seen)) ⊎ (by_other_clock form h times seen silent ≡ Ok o)
     → ((is_same_clock h times seen ≡ true) × (o ≡ by_same_clock h times seen)) ⊎ (o ≡ by_new_clock h times seen)
-same_or_other h times seen silent o (inl same) = inl same
-same_or_other h times seen silent o (inr other) = inr (other_clock h times seen silent o other)
+same_or_other form h times seen silent o (inl same) = inl same
+same_or_other form h times seen silent o (inr other) = inr (other_clock form h times seen silent o other)
 
-pub which_clock : (h : Header) (times : Times) (config : ConfigValue) (seen : Seen) (silent : Bool) (o : Onward) → going_on Three h times config seen silent ≡ Ok o
+pub which_clock : (form : Form) (h : Header) (times : Times) (config : ConfigValue) (seen : Seen) (silent : Bool) (o : Onward) → going_on form h times config seen silent ≡ Ok o
     → (has_sound_times h times seen ≡ true) × (((is_same_clock h times seen ≡ true) × (o ≡ by_same_clock h times seen)) ⊎ (o ≡ by_new_clock h times seen))
-which_clock h times config seen silent o is =
+which_clock form h times config seen silent o is =
     let life = passed_over (not (nat_eq h.life config.life)) _ _ o is in
     let longest = passed_over (not (nat_eq h.longest config.longest)) _ _ o life.1 in
     let rows = passed_over (not (nat_eq h.rows config.rows)) _ _ o longest.1 in
     let sound = passed_over (not (has_sound_times h times seen)) _ _ o rows.1 in
-    (is_so (has_sound_times h times seen) sound.0, same_or_other h times seen silent o (taken_or (is_same_clock h times seen) (by_same_clock h times seen) (by_other_clock Three h times seen silent) o sound.1))
+    (is_so (has_sound_times h times seen) sound.0, same_or_other form h times seen silent o (taken_or (is_same_clock h times seen) (by_same_clock h times seen) (by_other_clock form h times seen silent) o sound.1))
 
 same_is_clock : (h : Header) (times : Times) (seen : Seen) → is_same_clock h times seen ≡ true → IsClock times seen (by_same_clock h times seen)
 same_is_clock h times seen same =
@@ -93,7 +97,7 @@ new_is_clock h times seen sound =
 pub is_clock : (h : Header) (times : Times) (config : ConfigValue) (seen : Seen) (silent : Bool) (o : Onward) (was : ℕ)
     → ((h : Header) (times : Times) (seen : Seen) (was : ℕ) → was ≤ times.last + unseen → was + (by_new_clock h times seen).shift ≤ (by_new_clock h times seen).serves)
     → going_on Three h times config seen silent ≡ Ok o → was ≤ times.last + unseen → (is_same_clock h times seen ≡ true → was ≤ o.serves) → IsClock times seen o × (was + o.shift ≤ o.serves)
-is_clock h times config seen silent o was served is soon steady = let which = which_clock h times config seen silent o is in by_which which.1 which.0
+is_clock h times config seen silent o was served is soon steady = let which = which_clock Three h times config seen silent o is in by_which which.1 which.0
   where
     by_which : ((is_same_clock h times seen ≡ true) × (o ≡ by_same_clock h times seen)) ⊎ (o ≡ by_new_clock h times seen) → has_sound_times h times seen ≡ true → IsClock times seen o × (was + o.shift ≤ o.serves)
     by_which (inl same) sound =
@@ -101,3 +105,11 @@ is_clock h times config seen silent o was served is soon steady = let which = wh
         let unshifted : o.shift ≡ 0 = ap (λ (x : Onward). x.shift) same.1 in
         (subst (IsClock times seen) (sym same.1) (same_is_clock h times seen same.0), omega (arith, no_later, unshifted))
     by_which (inr new) sound = (subst (IsClock times seen) (sym new) (new_is_clock h times seen sound), subst (λ (x : Onward). was + x.shift ≤ x.serves) (sym new) (served h times seen was soon))
+
+-- it serves no more than a second after what it reads
+pub serves_soon : (form : Form) (h : Header) (times : Times) (config : ConfigValue) (seen : Seen) (silent : Bool) (o : Onward) → going_on form h times config seen silent ≡ Ok o → o.serves ≤ o.reads + unseen
+serves_soon form h times config seen silent o is = by (which_clock form h times config seen silent o is).1
+  where
+    by : ((is_same_clock h times seen ≡ true) × (o ≡ by_same_clock h times seen)) ⊎ (o ≡ by_new_clock h times seen) → o.serves ≤ o.reads + unseen
+    by (inl same) = subst (λ (x : Onward). x.serves ≤ x.reads + unseen) (sym same.1) (omega arith)
+    by (inr new) = subst (λ (x : Onward). x.serves ≤ x.reads + unseen) (sym new) (omega arith)

@@ -25,7 +25,7 @@ use Rattle.nbt_serve.specs.Serving.{Turn, Turns, passes, takes, goes_back, has_n
 use Rattle.nbt_port.specs.Memory.{DatagramValue}
 use Rattle.nbt_serve.specs.Changing.{IsKept}
 use Rattle.nbt_serve.specs.Runs.{CrashLeavesAnEarlierServer, IsEarlier, gone_in, last_left, turns_in}
-use Rattle.nbt_store.specs.Beginning.{IsBegun, GoesOn}
+use Rattle.nbt_store.specs.Beginning.{BeginsAs, IsBegun, GoesOn}
 use Rattle.nbt_store.specs.Resuming.{GoesOnWith, ResumesAs, ResumesOn, later_rows, goes_on, too_many, too_old, none_that_stand, not_now, by_clock, nothing_kept, no_file, with_file}
 use Rattle.nbt_store.specs.declared.beginning.Begun.{Begun}
 use Rattle.nbt_store.specs.declared.resuming.Decided.{Decided}
@@ -38,17 +38,17 @@ use Rattle.nbt_net.proofs.Onwards.{is_clock, times_last}
 
 -- ---- the laws below
 
-abbrev KeptResumes : Type 0
+abbrev pub KeptResumes : Type 0
 KeptResumes = (was server : ServerValue) (kept : Leases) (rows : Rows) (last now : ℕ) → IsKept kept was → was.last ≤ now → ((name : NameValue) → leases_at now rows name ≡ filter (is_live now) (kept name))
     → ServerResumes (kept_server was.table.config was.start last rows) now server → ServerResumes was now (limited was.client_rows server)
 
-abbrev FileHasOneReading : Type 0
+abbrev pub FileHasOneReading : Type 0
 FileHasOneReading = (octets : List ℕ) (form other : Form) (h g : Header) (cs ds : List Change) (last end : ℕ) → IsFile octets form h cs last → IsFile octets other g ds end → (form ≡ other) × (h ≡ g) × (cs ≡ ds) × (last ≡ end)
 
-abbrev ServesPast : Type 0
+abbrev pub ServesPast : Type 0
 ServesPast = (h : Header) (times : Times) (seen : Seen) (was : ℕ) → was ≤ times.last + unseen → was + (by_new_clock h times seen).shift ≤ (by_new_clock h times seen).serves
 
-abbrev ShiftedTells : Type 0
+abbrev pub ShiftedTells : Type 0
 ShiftedTells = (more : ℕ) (server : ServerValue) (now : ℕ) → TellsAlike more server now
 
 -- ---- turns keep a server's start and its limits
@@ -113,6 +113,29 @@ on_clock f h t rows onward _ going clock (none_that_stand bad) is = absurd cc
 with_loaded : (f : Found) (h : Header) (t : Times) (rows : Rows) (decided : Decided) (going : Going) → GoesOnWith f Three h t rows decided → decided ≡ Goes going → GoesBy f h t rows going
 with_loaded f h t rows _ going (not_now why refused) is = absurd cc
 with_loaded f h t rows _ going (by_clock onward decided clock on) is = on_clock f h t rows onward decided going clock on is
+
+-- a server that begins has the limits of what was found
+decided_config : (f : Found) (h : Header) (t : Times) (rows : Rows) (onward : Onward) (decided : Decided) (going : Going) → ResumesOn f h t rows onward decided → decided ≡ Goes going → going.server.table.config ≡ f.config
+decided_config f h t rows onward _ going (goes_on other ahead reads start late resumes called sound recent) is = let same : other ≡ going = cc in subst (λ (g : Going). g.server.table.config ≡ f.config) same resumes.config
+decided_config f h t rows onward _ going (too_many many) is = absurd cc
+decided_config f h t rows onward _ going (too_old old) is = absurd cc
+decided_config f h t rows onward _ going (none_that_stand bad) is = absurd cc
+
+loaded_config : (f : Found) (form : Form) (h : Header) (t : Times) (rows : Rows) (decided : Decided) (going : Going) → GoesOnWith f form h t rows decided → decided ≡ Goes going → going.server.table.config ≡ f.config
+loaded_config f form h t rows _ going (not_now why refused) is = absurd cc
+loaded_config f form h t rows _ going (by_clock onward decided clock on) is = decided_config f h t rows onward decided going on is
+
+found_config : (f : Found) (decided : Decided) (going : Going) → ResumesAs f decided → decided ≡ Goes going → going.server.table.config ≡ f.config
+found_config f _ going (nothing_kept none) is = absurd cc
+found_config f _ going (no_file octets fault kept bad) is = absurd cc
+found_config f _ going (with_file octets form h t rows decided kept loaded goes) is = loaded_config f form h t rows decided going goes is
+
+pub begun_config : (f : Found) (b : Begun) → BeginsAs f b → b.server.table.config ≡ f.config
+begun_config f b begins = by begins.0 begins.1 begins.2
+  where
+    by : (decided : Decided) → ResumesAs f decided → IsBegun f decided b → b.server.table.config ≡ f.config
+    by (Goes going) as_found g = ap (λ (s : ServerValue). s.table.config) g.server_is ∙ found_config f (Goes going) going as_found refl
+    by (Silent reason) as_found g = g.starts.config_is
 
 -- what was loaded is what a crash left
 record LoadsLeft (f : Found) (h : Header) (left : List Change) (going : Going) : Type 0 where

@@ -7,3 +7,7 @@ pub mod Lives
 pub mod Reaching
 pub mod Turns
 pub mod Restarts
+pub mod Devices
+pub mod Hosting
+pub mod Again
+pub mod Fronts

@@ -1,10 +1,13 @@
 //! A network of the programs' own acts is a run of a world; and what a server is after a crash and a start, and what its clock reads: each
 //! law is the contract of a function that does nothing.
 
-ghost use Rattle.std.specs.Prelude.{◌≡◌, ℕ, ◌+◌, ◌≤◌, ◌↔◌, List, Option, Some, None, IsTrue};
+ghost use Rattle.std.specs.Prelude.{◌≡◌, ℕ, ◌+◌, ◌≤◌, ◌↔◌, List, ◌++◌, Option, Some, None, IsTrue};
 ghost use Rattle.nbt_name.specs.declared.addr.Addr.{Addr};
 ghost use Rattle.nbt_lease.specs.Config.{ConfigValue};
 ghost use Rattle.nbt_node.specs.Node.{NodeValue};
+ghost use Rattle.nbt_front.specs.FrontPort.{Fronted, FrontDoes};
+ghost use Rattle.nbt_port.specs.PortCalls.{PortCall, Chain};
+ghost use Rattle.nbt_serve.specs.SambaPort.{HandsOn};
 ghost use Rattle.nbt_server.specs.Calls.{ServerResumes};
 ghost use Rattle.nbt_server.specs.Serving.{ServerValue};
 ghost use Rattle.nbt_server.specs.Shifted.{shifted_server};
@@ -18,14 +21,21 @@ ghost use Rattle.nbt_world.specs.Shifted.{shifted_server_end};
 ghost use Rattle.nbt_world.specs.Step.{Resumes};
 ghost use Rattle.nbt_world.specs.World.{WorldValue, AreAddrs, with_server};
 ghost use Rattle.nbt_world.specs.declared.ends.Ends.{Ends};
+ghost use Rattle.nbt_net.specs.Again.{FirstStart, NextStart, StartBeginsARun};
 ghost use Rattle.nbt_net.specs.Clocks.{counted, place_reads};
+ghost use Rattle.nbt_net.specs.Devices.{Call, Story, no_story, AreActs, IsCutAt};
+ghost use Rattle.nbt_net.specs.Fronts.{AreThrough};
+ghost use Rattle.nbt_net.specs.Hosting.{HostsAreLived, FailedHostsAreLived};
+ghost use Rattle.nbt_net.specs.Hosts.{HostLives};
 ghost use Rattle.nbt_net.specs.Lives.{Network, NetworkIsARun, NoTwoHold};
 ghost use Rattle.nbt_net.specs.Reaching.{HostsActIsARun, ServersActIsARun};
 ghost use Rattle.nbt_net.specs.Restarts.{HostsLiveLater, LivesLater, RestartGoesOn};
-ghost use Rattle.nbt_net.specs.Servers.{ServerEnd};
+ghost use Rattle.nbt_net.specs.Servers.{ServerEnd, ServerLives};
 ghost use Rattle.nbt_net.specs.Starts.{StartResumesAnEarlierServer};
 ghost use Rattle.nbt_net.specs.Turns.{BrokenTurnsAreLived, CrashCutsALifeShort, HostTurnsAreLived, HostsLiveOn, ServerRunsAreLived, ServerTurnsAreLived};
 ghost use Rattle.nbt_net.specs.Wire.{Happening};
+
+use nbt_port::Port;
 
 /// What a server does at one reading of its clock is a run of the world, with what its port sends: it starts, resumes, takes a turn or fails in it, or crashes.
 pub fn a_servers_act_is_a_run()
@@ -55,6 +65,22 @@ pub fn a_servers_turns_are_lived()
     nbt_serve::laws::servers_go_by_turns();
 }
 
+/// What the contract of `run_host` says of a host with one server is a life of it, from its first call to its last: until its time is over and its
+/// names are given back (`ok`), or until its port fails for good (`failed`). All that its port and its clocks did stands in one order. At each
+/// reading of the clocks stand the acts at that time: what came right before it is handled at it, and what is sent leaves before the next one.
+pub fn a_whole_host_is_lived()
+    ensures ok { HostsAreLived }
+    ensures failed { FailedHostsAreLived }
+{}
+
+/// Cut off behind any call of its devices, such a life is one so far: of the same acts, the first of them.
+pub fn a_life_may_be_cut_at_any_call()
+    ensures server { (config : ConfigValue) (slack : ℕ) (old new : ServerEnd) (calls : List Call) (story : Story) → Chain (ServerLives config) old story.acts new → AreActs slack no_story calls story
+        → (before behind : List Call) → calls ≡ before ++ behind → IsCutAt (ServerLives config) slack old before story }
+    ensures host { (config : ConfigValue) (server at : Addr) (slack : ℕ) (old new : Option NodeValue) (calls : List Call) (story : Story) → Chain (HostLives config server at) old story.acts new → AreActs slack no_story calls story
+        → (before behind : List Call) → calls ≡ before ++ behind → IsCutAt (HostLives config server at) slack old before story }
+{}
+
 /// Whatever a crash leaves of a server that keeps its leases, after any call of its devices or within one that failed, is of a life that
 /// was cut short there. Each reply that has left was sent in that life; what else came is lost.
 pub fn a_crash_cuts_a_life_short()
@@ -80,6 +106,31 @@ pub fn a_life_goes_on_after_a_restart()
 {
     nbt_server::laws::a_shifted_server_does_the_same();
     a_start_resumes_an_earlier_server();
+}
+
+/// What comes to a server behind a front, over a port that takes the registrations of Samba's programs (`samba`) or one that is strict
+/// (`strict`), may come to it: where nothing that comes from an end's address is taken for such a registration, and what comes there else may come to any end. What is
+/// sent beneath the front is sent by the server, or moves no name, or confirms a fixed name to one of its own addresses. So where no fixed name lists an end's address,
+/// nothing of the front moves a name of an end: it is as what another program sends there.
+pub fn a_front_moves_no_name_of_an_end<P: Port>()
+    ensures samba { (calls : List PortCall) (old new : Fronted P) → Chain (FrontDoes (HandsOn P.does)) old calls new → AreThrough P.does old calls new }
+    ensures strict { (calls : List PortCall) (old new : Fronted P) → Chain (FrontDoes P.does) old calls new → AreThrough P.does old calls new }
+{}
+
+/// However a server that keeps its leases begins, a run begins with what it wrote, and the header of its file has its limits, its start and the
+/// time that its clock read (`begins`). So it lives over any number of crashes, each at or within any call of its devices: what holds of the first
+/// start (`first`) holds of the next one (`next`), which goes on with what the crash left or begins anew, and so of each behind it.
+pub fn a_server_lives_over_any_number_of_crashes()
+    ensures begins { StartBeginsARun }
+    ensures first { FirstStart }
+    ensures next { NextStart }
+{
+    nbt_serve::laws::a_crash_leaves_an_earlier_server();
+    nbt_serve::laws::what_is_kept_resumes();
+    nbt_serve::laws::what_is_written_is_kept();
+    nbt_store::laws::a_file_has_one_reading();
+    nbt_store::laws::a_new_clock_begins_at_the_last_time();
+    nbt_server::laws::a_shifted_server_does_the_same();
 }
 
 /// A network of programs is safe: from a wire on which nothing happened yet, through all that may happen, no two hosts hold one name, unless
