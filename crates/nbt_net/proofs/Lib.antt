@@ -37,3 +37,8 @@ mod HostWhole
 mod Again
 -- what stands before a server
 mod Fronting
+-- a server's turns with its devices, with a state and without one, and a whole server
+mod ServerParts
+mod UnkeptParts
+mod Looks
+mod NbnsWhole

@@ -11,3 +11,4 @@ pub mod Devices
 pub mod Hosting
 pub mod Again
 pub mod Fronts
+pub mod Nbns

@@ -30,6 +30,7 @@ ghost use Rattle.nbt_net.specs.Hosts.{HostLives};
 ghost use Rattle.nbt_net.specs.Lives.{Network, NetworkIsARun, NoTwoHold};
 ghost use Rattle.nbt_net.specs.Reaching.{HostsActIsARun, ServersActIsARun};
 ghost use Rattle.nbt_net.specs.Restarts.{HostsLiveLater, LivesLater, RestartGoesOn};
+ghost use Rattle.nbt_net.specs.Nbns.{NbnsAreLived, FailedNbnsAreLived, KeptAreLived, FailedKeptAreLived};
 ghost use Rattle.nbt_net.specs.Servers.{ServerEnd, ServerLives};
 ghost use Rattle.nbt_net.specs.Starts.{StartResumesAnEarlierServer};
 ghost use Rattle.nbt_net.specs.Turns.{BrokenTurnsAreLived, CrashCutsALifeShort, HostTurnsAreLived, HostsLiveOn, ServerRunsAreLived, ServerTurnsAreLived};
@@ -71,6 +72,17 @@ pub fn a_servers_turns_are_lived()
 pub fn a_whole_host_is_lived()
     ensures ok { HostsAreLived }
     ensures failed { FailedHostsAreLived }
+{}
+
+/// So is what the contract of `run_nbns` says of a server without a state (`bare`), also where its port fails for good (`bare_failed`); and what
+/// that of `run_server` says of one with a state, from the server that it begins as (`kept`), and what `KeptFails` says of one whose port or
+/// store fails (`kept_failed`). With a state a reply may leave later than at its act, but no longer after it than a datagram's life, by the
+/// server's own clock; and the calls of the port and the store are those of a run of a server that keeps its leases.
+pub fn a_whole_server_is_lived()
+    ensures bare { NbnsAreLived }
+    ensures bare_failed { FailedNbnsAreLived }
+    ensures kept { KeptAreLived }
+    ensures kept_failed { FailedKeptAreLived }
 {}
 
 /// Cut off behind any call of its devices, such a life is one so far: of the same acts, the first of them.
