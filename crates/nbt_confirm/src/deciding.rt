@@ -24,7 +24,7 @@ const FLAGS: usize = 2;
 
 /// The request that waits for the holder, where the server did this with these octets from an endpoint at `now`: it refused a
 /// registration or a refresh of a unique name with ACT_ERR (6), since another address leases that name, and its reply is held back. `None`
-/// for all else, whose reply goes out. `now` is at least the table's `last()`.
+/// for all else, whose reply goes out (our profile). `now` is at least the table's `last()`.
 pub fn held_back(
     table: &Table,
     now: Moment,
@@ -47,7 +47,7 @@ pub fn held_back(
 
 /// What a request of OPCODE 15 waits for before the server handles it: the answer of the address that sent it, as `Source` where it is
 /// for another address, and as `Sender` where the server would begin a lease. `None` where the server handles it at once: it renews a
-/// lease, or refuses the request. `now` is at least the table's `last()`.
+/// lease, or refuses the request (our profile). `now` is at least the table's `last()`.
 pub fn asks_first(
     table: &Table,
     now: Moment,
@@ -72,7 +72,8 @@ pub fn asks_first(
     }
 }
 
-/// A claim, as it waits for what the machine at an address says.
+/// The request that a claim with these flags from an endpoint is, as it waits for what the machine at the 32-bit address `asked` says
+/// (our profile). `flags` is the word of R, OPCODE, NM_FLAGS and RCODE (RFC 1002 section 4.2.1.1); the TTL stays in seconds.
 pub fn request_of(
     from: Addr,
     flags: u16,
