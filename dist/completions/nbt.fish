@@ -69,6 +69,7 @@ complete -c nbt -n '__nbt_takes stats nbns' -l stats -r -F -d 'Keep statistics i
 complete -c nbt -n '__nbt_takes strict nbns' -l strict -d 'Refuse the registrations of Samba'
 complete -c nbt -n '__nbt_takes rows-per-client nbns' -l rows-per-client -x -d 'How many live leases a client may have'
 complete -c nbt -n '__nbt_is nbns' -l allow -x -d 'Let the machines of a network register'
+complete -c nbt -n '__nbt_takes allow-file nbns' -l allow-file -r -F -d 'Let the machines of the networks of a file register'
 complete -c nbt -n '__nbt_takes fixed nbns' -l fixed -r -F -d 'Answer for the names of a file'
 complete -c nbt -n '__nbt_takes state nbns' -l state -x -a '(__fish_complete_directories)' -d 'Keep the leases in a folder'
 complete -c nbt -n '__nbt_takes silent-after-boot nbns' -l silent-after-boot -d 'Go on in the same boot alone'

@@ -32,7 +32,7 @@ def copied(lab, folder, octets):
 
 
 def file_of(folder):
-    return Path(f"{folder}/leases").read_bytes()
+    return files.lines_of(f"{folder}/leases")
 
 
 def lines(lab):

@@ -26,6 +26,11 @@ PRIME, BASE = 4_294_967_291, 257  # of a line's checksum (docs/PROTOCOL.md, sect
 HEADER = ["life", "longest", "rows", "boot", "ahead", "start", "last", "day", "leases"]  # the words of line 2
 
 
+def lines_of(path):
+    """The octets of a file of leases without its room, which is zeros behind its lines."""
+    return Path(path).read_bytes().rstrip(b"\0")
+
+
 def sealed(lines, version=3):
     """The file of these lines, without the first one: each is a list of words, and gets its checksum, which goes on from that of the line
     before. In version 2 none does."""
@@ -82,18 +87,18 @@ class Start:
         return self.reason == reason and not self.reply
 
 
-def lines_of(octets):
+def count_of(octets):
     return octets.count(b"\n")
 
 
 def is_ours(start, _):
     """Whether it goes on at once with all leases of its file: FILER's is one, and the other host is refused the name."""
-    return start.kept == (lines_of(start.octets) - 2, NOW) and start.is_refused()
+    return start.kept == (count_of(start.octets) - 2, NOW) and start.is_refused()
 
 
 def cut_well(start, place):
     """Whether it did as it has to over a file that is cut: it was written with all its leases, so nothing of it stands unless all do."""
-    whole = lines_of(start.octets)
+    whole = count_of(start.octets)
     if whole == 0:
         return start.is_silent("nothing was kept")
     return start.is_silent(f"damaged at line {whole + 1}") and start.aside == start.octets
@@ -102,7 +107,7 @@ def cut_well(start, place):
 def changed_well(start, place):
     """Whether it did as it has to over a file with another octet: it is damaged in that line; at its very end the line has no end. Line 1
     of version 2 is one that is read: then the line of a lease is damaged, since it has another form."""
-    line = 3 if start.octets.startswith(b"nbt leases, version 2\n") else lines_of(start.octets[:place]) + 1
+    line = 3 if start.octets.startswith(b"nbt leases, version 2\n") else count_of(start.octets[:place]) + 1
     return start.is_silent("another version" if line == 1 else f"damaged at line {line}") and start.aside == start.octets
 
 
@@ -132,7 +137,7 @@ def files_of(good):
     """Files with right checksums, and what a server does over each: it goes on, at once or after a second, or says why not. Some are made
     here; of the others files.txt has a line each: what it is, what is changed, which lines of changes stand behind, and what is done."""
     words = header_of(good) | dict(zip(("began", "name", "host", "further", "kind", "end", "time"), words_of(good)[1], strict=True))
-    words |= {"later": "LATER {host} {further} {kind} {end} {time}".format(**words), "behind": f"damaged at line {lines_of(good) + 1}"}
+    words |= {"later": "LATER {host} {further} {kind} {end} {time}".format(**words), "behind": f"damaged at line {count_of(good) + 1}"}
     yield "as it was", good, NOW
     yield "with a space more", good.replace(b" FILER ", b"  FILER "), "damaged at line 3"
     # of which none goes on from that of the line before

@@ -15,8 +15,8 @@ use Rattle.nbt_nbns.specs.declared.arguments.ServerArguments.{ServerArguments}
 use Rattle.nbt_admin.specs.Asking.{ReadsLookup, ReadsStatus}
 use Rattle.nbt_admin.specs.Hosting.{ReadsHost, ReadsRelease}
 use Rattle.nbt_admin.specs.Serving.{ReadsServer}
-use Rattle.nbt_admin.specs.Fronts.{GivesFixed, FixedFails}
-use Rattle.nbt_front.specs.FixedNames.{FixedNames}
+use Rattle.nbt_admin.specs.Fronts.{ReadsFront, FrontFails}
+use Rattle.nbt_front.specs.Deciding.{FrontValue}
 use Rattle.nbt_host.specs.ReleaseRunning.{ReleasesHere}
 use Rattle.nbt_admin.specs.Failures.{IsFault}
 use Rattle.nbt_admin.specs.Scans.{ReadsScan}
@@ -47,9 +47,9 @@ pub record ReleasedHere (a : HostArguments) (status : ℕ) (old_text text : Opti
   pub releases : ReleasesHere a.bind a.server a.wants.items all old_text text
   pub status_is : status ≡ (if all then 0 else 1)
 
--- a server for which these names are fixed
-abbrev pub with_fixed : FixedNames → ServerArguments → ServerArguments
-with_fixed names a = record a { nbns = record a.nbns { front = record a.nbns.front { fixed = names } } }
+-- a server before which this stands
+abbrev pub with_front : FrontValue → ServerArguments → ServerArguments
+with_front front a = record a { nbns = record a.nbns { front = front } }
 
 -- A name server ended so, or didn't begin since another one has its folder, which the status says.
 pub record EndedHere (a : ServerArguments) (status : ℕ) (old_text text : Option (List ℕ)) : Type 0 where
@@ -77,7 +77,7 @@ pub record ScannedHere (a : ScanArguments) (status : ℕ) (old_text text : Optio
 abbrev pub Runs : AdminLine → (status : ℕ) → (old_text text : Option (List ℕ)) → Type 0
 Runs (Lookup texts) status old_text text = (a : AskArguments) × ReadsLookup texts (Ok a) × AskedHere a status old_text text
 Runs (Status texts) status old_text text = (requests : List HostAsked) × ReadsStatus texts (Ok requests) × AskedInTurn (nat_lt 1 (length requests)) requests status old_text text
-Runs (Nbns texts) status old_text text = (a : ServerArguments) × ReadsServer texts (Ok a) × (names : FixedNames) × GivesFixed texts.fixed names × ServedHere (with_fixed names a) texts.check status old_text text
+Runs (Nbns texts) status old_text text = (a : ServerArguments) × ReadsServer texts (Ok a) × (front : FrontValue) × ReadsFront texts a.nbns.front front × ServedHere (with_front front a) texts.check status old_text text
 Runs (Host texts) status old_text text = (a : HostArguments) × ReadsHost texts (Ok a) × HostedHere a status old_text text
 Runs (Release texts) status old_text text = (a : HostArguments) × ReadsRelease texts (Ok a) × ReleasedHere a status old_text text
 Runs (Scan texts) status old_text text = (a : ScanArguments) × ReadsScan texts (Ok a) × ScannedHere a status old_text text
@@ -91,9 +91,9 @@ Refuses (Host texts) failure = ReadsHost texts (Err failure)
 Refuses (Release texts) failure = ReadsRelease texts (Err failure)
 Refuses (Scan texts) failure = ReadsScan texts (Err failure)
 
--- a line of the file of fixed names is wrong
+-- a line of the file of networks or of that of fixed names is wrong
 abbrev pub RefusesFile : AdminLine → Failure → Type 0
-RefusesFile (Nbns texts) failure = FixedFails texts.fixed failure
+RefusesFile (Nbns texts) failure = FrontFails texts failure
 RefusesFile _ failure = ⊥
 
 -- an argument is wrong, or a line of a file, or a port, a clock, a socket, a file or the output failed, or memory is out

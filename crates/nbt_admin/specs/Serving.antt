@@ -129,8 +129,12 @@ ReadsNbns texts allowed = Then (ReadsConfig texts.life.now texts.longest.now) (�
       state = state;
     }))))))))))
 
--- the networks come first, and then the path of the file of fixed names
+-- the file of networks has a path, and that of fixed names
+abbrev pub NeedsPaths : NbnsTexts → Result Unit Failure → Type 0
+NeedsPaths texts = Then (Fits (λ path. path ≢ []) w.NoAllowed texts.allow_file) (λ _. Fits (λ path. path ≢ []) w.NoFixed texts.fixed)
+
+-- the networks come first, and then the paths of both files
 abbrev pub ReadsServer : NbnsTexts → Result ServerArguments Failure → Type 0
 ReadsServer texts = Then (Each ReadsNetwork [] texts.allow.items) (λ allowed.
-    Then (Fits (λ path. path ≢ []) w.NoFixed texts.fixed) (λ _.
+    Then (NeedsPaths texts) (λ _.
     ReadsNbns texts allowed))

@@ -9,7 +9,7 @@ use crate::reason::why_no_address;
 use crate::scanning::{PORT_MOST, RATE_MOST};
 use crate::timing::CHANGES_MOST;
 use nbt_args::{LimitedArgument, Refusal, Text};
-use nbt_front::LineFault;
+use nbt_front::{LineFault, NetworksFault};
 use nbt_lease::{Config, LIFE_MOST, LONGEST_MOST, ROWS_MOST};
 use nbt_nbns::write_refusal;
 use nbt_port::Fault;
@@ -64,6 +64,8 @@ pub enum ArgumentFault {
     PathTwice,
     /// A path whose last component is the name of a file that the folder of a state has for itself.
     Stores,
+    /// An empty path of the file of networks.
+    NoAllowed,
     /// An empty path of the file of fixed names.
     NoFixed,
     /// Not a number of live leases for a client.
@@ -112,6 +114,7 @@ impl ArgumentFault {
             ArgumentFault::NoHosts => "hosts",
             ArgumentFault::NoStats => "statistics",
             ArgumentFault::PathTwice | ArgumentFault::Stores => "file",
+            ArgumentFault::NoAllowed => "networks",
             ArgumentFault::NoFixed => "fixed names",
             ArgumentFault::ClientRows => "rows per client",
             ArgumentFault::ClientChanges => "changes per client",
@@ -157,6 +160,7 @@ impl fmt::Display for ArgumentFault {
             ArgumentFault::NoPath
             | ArgumentFault::NoHosts
             | ArgumentFault::NoStats
+            | ArgumentFault::NoAllowed
             | ArgumentFault::NoFixed => f.write_str("no path of a file"),
             ArgumentFault::Stores => f.write_str(
                 "a file of that name belongs to the folder of --state",
@@ -270,6 +274,25 @@ impl fmt::Display for BadLine {
     }
 }
 
+/// A file of networks that can't be taken: its path, and what is wrong with it. It prints as
+/// `networks.txt: line 3: one network is wanted, as 192.0.2.0/24`.
+#[derive(Drop)]
+pub struct BadNetworks {
+    pub path: String,
+    pub fault: NetworksFault,
+}
+
+impl fmt::Display for BadNetworks {
+    fn fmt<W: fmt::Write>(&self, f: &mut fmt::Formatter<W>) -> fmt::Result {
+        let path = self.path.as_str();
+        match self.fault {
+            NetworksFault::Line(number, fault) => write!(f, "{path}: line {number}: {fault}"),
+            NetworksFault::NoNetwork => write!(f, "{path}: no line names a network"),
+            NetworksFault::Memory => write!(f, "{path}: out of memory"),
+        }
+    }
+}
+
 /// What standard error reports of a command's arguments.
 #[derive(Drop)]
 pub enum Complaint {
@@ -277,6 +300,8 @@ pub enum Complaint {
     Argument(BadArgument),
     /// A line of the file of fixed names can't be taken.
     Line(BadLine),
+    /// The file of networks can't be taken.
+    Networks(BadNetworks),
     /// The longest lease is too short, as `nbt_nbns::judge` has it.
     Short(Config),
     /// This number of names is more than a host can hold.
@@ -299,6 +324,7 @@ impl Complaint {
         match self {
             Complaint::Argument(bad) => writeln!(errors, "nbt: {bad}")?,
             Complaint::Line(bad) => writeln!(errors, "nbt: {bad}")?,
+            Complaint::Networks(bad) => writeln!(errors, "nbt: {bad}")?,
             Complaint::Short(config) => {
                 let mut text = String::new(alloc);
                 write_refusal(*config, &mut text)?;

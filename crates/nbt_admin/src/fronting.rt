@@ -1,22 +1,22 @@
 //! Reads what stands before a name server: the networks whose machines may register, and the file of fixed names.
 
-ghost use Rattle.std.specs.Prelude.{◌⊎◌, IfOk, IfErr};
+ghost use Rattle.std.specs.Prelude.{◌⊎◌, IfOk, IfErr, OnOk};
 ghost use Rattle.nbt_admin.specs.Failures.{IsFault};
-ghost use Rattle.nbt_admin.specs.Fronts.{FixedFails, GivesFixed};
+ghost use Rattle.nbt_admin.specs.Fronts.{FixedFails, FrontFails, GivesFixed, GivesNetworks, NetworksFail, ReadsFront};
 
-use crate::failure::{ArgumentFault, BadLine, Complaint, Failure};
+use crate::failure::{ArgumentFault, BadLine, BadNetworks, Complaint, Failure};
 use crate::other_lists::OtherList;
 use crate::reading::ReadEach;
-use nbt_front::{FileFault, FixedNames, Network, read_fixed, read_network};
+use nbt_args::NbnsTexts;
+use nbt_front::{
+    FileFault, FixedNames, Front, Network, NetworksFault, octets_in, read_fixed, read_network,
+    read_networks,
+};
 use nbt_port::Fault;
 use std::alloc::Global;
-use std::fs::{File, OpenFile};
-use std::io::{Read, Write};
+use std::io;
+use std::io::Write;
 use std::rt::Files;
-use std::{fs, io};
-
-/// The most octets of a file of fixed names (our profile).
-const FILE_MOST: u64 = 1 << 22;
 
 /// Reads networks.
 #[derive(Clone, Copy)]
@@ -39,7 +39,7 @@ impl<'a> ReadEach<'a> for Networks {
 
 /// The names that are fixed by the file of this path; none without a path. Refused at the first line that can't be taken; and with
 /// `Store` where the file can't be read, is no regular one, or has 4 MiB or more: a line in `errors` then says why.
-pub(crate) fn fixed_of<M: Files, E: Write>(
+fn fixed_of<M: Files, E: Write>(
     machine: &M,
     alloc: Global,
     path: Option<&str>,
@@ -70,20 +70,66 @@ pub(crate) fn fixed_of<M: Files, E: Write>(
     }
 }
 
-/// The octets of the file of this path. Refused where that is no regular file: a pipe that nobody writes, and a device that doesn't end,
-/// would keep the server from its start.
-fn octets_in<M: Files>(machine: &M, alloc: Global, path: &str) -> io::Result<Vec<u8>> {
-    if !fs::metadata(machine, path)?.is_file() {
-        return Err(io::Error::other("no regular file"));
+/// The networks of the file of this path; none without a path. Refused where the file can't be taken; and with `Store` where it can't be read, is no
+/// regular one, or has 4 MiB or more: a line in `errors` then says why.
+fn networks_of<M: Files, E: Write>(
+    machine: &M,
+    alloc: Global,
+    path: Option<&str>,
+    errors: &mut E,
+) -> Result<Vec<Network>, Failure>
+    ensures given { IfOk result (λ networks. GivesNetworks path.entry networks.items) }
+    ensures failure { IfErr result (λ failure. IsFault failure ⊎ NetworksFail path.entry failure) }
+{
+    let Some(path) = path else {
+        return Ok(Vec::new(alloc));
+    };
+    let octets = match octets_in(machine, alloc, path) {
+        Ok(octets) => octets,
+        Err(error) => {
+            let _ = complain(path, error, errors);
+            return Err(Failure::Fault(Fault::Store));
+        }
+    };
+    match read_networks(alloc, octets.as_slice()) {
+        Ok(networks) => Ok(networks),
+        Err(NetworksFault::Memory) => Err(Failure::Fault(Fault::Memory)),
+        Err(fault) => {
+            let path = String::from_str(alloc, path)?;
+            Err(Failure::Complaint(Complaint::Networks(BadNetworks { path, fault })))
+        }
     }
-    let mut octets = Vec::new(alloc);
-    File::open(machine, path)?
-        .take(FILE_MOST)
-        .read_to_end(&mut octets)?;
-    if octets.len() as u64 >= FILE_MOST {
-        return Err(io::Error::other("it is too long"));
+}
+
+/// Reads the files of what stands before a server: its networks, and then its fixed names. Refused as these are.
+pub(crate) fn read_front<M: Files, E: Write>(
+    machine: &M,
+    alloc: Global,
+    texts: &NbnsTexts<'_>,
+    front: &mut Front,
+    errors: &mut E,
+) -> Result<(), Failure>
+    ensures ok { OnOk result (ReadsFront texts.now front.old front.new) }
+    ensures failure { IfErr result (λ failure. IsFault failure ⊎ FrontFails texts.now failure) }
+{
+    let networks = networks_of(machine, alloc, texts.allow_file, errors)?;
+    let names = fixed_of(machine, alloc, texts.fixed, errors)?;
+    let allow_file = copy_of(alloc, texts.allow_file)?;
+    let fixed = copy_of(alloc, texts.fixed)?;
+    front.read_from(allow_file, fixed);
+    front.allow(networks)?;
+    front.fix(names);
+    Ok(())
+}
+
+/// Copies a text, if there is one.
+fn copy_of(alloc: Global, text: Option<&str>) -> Result<Option<String>, Failure>
+    ensures { IfErr result IsFault }
+{
+    match text {
+        Some(text) => Ok(Some(String::from_str(alloc, text)?)),
+        None => Ok(None),
     }
-    Ok(octets)
 }
 
 fn complain<E: Write>(path: &str, error: io::Error, errors: &mut E) -> io::Result<()> {

@@ -24,7 +24,7 @@ mod statuses;
 mod timing;
 
 pub use asking::{AskArguments, HostAsked, lookup_arguments, status_requests};
-pub use failure::{ArgumentFault, BadArgument, BadLine, Complaint, Failure};
+pub use failure::{ArgumentFault, BadArgument, BadLine, BadNetworks, Complaint, Failure};
 pub use first_line::FirstLineWriter;
 pub use hosting::{NAMES_MOST, host_arguments, release_arguments};
 pub use journal_writer::{JournalWriter, Lines};

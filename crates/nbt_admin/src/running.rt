@@ -7,7 +7,7 @@ ghost use Rattle.nbt_admin.specs.Running.{Runs, Refuses, Stops, AskedHere, Check
 
 use crate::asking::{AskArguments, lookup_arguments, status_requests};
 use crate::failure::Failure;
-use crate::fronting::fixed_of;
+use crate::fronting::read_front;
 use crate::hosting::{host_arguments, release_arguments};
 use crate::scanning::{ScanArguments, scan_arguments};
 use crate::serving::server_arguments;
@@ -65,8 +65,7 @@ pub fn run<M: Net + time::Clock + RandomSource + Files<File = File>, W: Write, E
         }
         AdminLine::Nbns(texts) => {
             let mut nbns = server_arguments(alloc, texts)?;
-            let names = fixed_of(machine, alloc, texts.fixed, errors)?;
-            nbns.nbns.front.fix(names);
+            read_front(machine, alloc, texts, &mut nbns.nbns.front, errors)?;
             Ok(serve(machine, alloc, &nbns, texts.check, writer, errors)?)
         }
         AdminLine::Host(texts) => {

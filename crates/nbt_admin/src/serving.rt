@@ -2,7 +2,7 @@
 
 ghost use Rattle.std.specs.Prelude.{◌≡◌, ◌≢◌, ◌↔◌, [], None, Ok, Err, IsTrue, IfErr, OnOk};
 ghost use Rattle.nbt_admin.specs.Reading.{Fits, IfGiven};
-ghost use Rattle.nbt_admin.specs.Serving.{AreApart, TwiceFails, path_of, IsNamed, IsStores, NeedsFree, ReadsFiles, ReadsFolder, ReadsNbns, ReadsPath, ReadsServer};
+ghost use Rattle.nbt_admin.specs.Serving.{AreApart, TwiceFails, path_of, IsNamed, IsStores, NeedsFree, NeedsPaths, ReadsFiles, ReadsFolder, ReadsNbns, ReadsPath, ReadsServer};
 
 use crate::binding::bind_of;
 use crate::failure::{ArgumentFault, Failure};
@@ -20,14 +20,23 @@ const CLIENT_ROWS: u32 = 64;
 /// How many changes a client may make in a second, without an argument (our profile).
 const CLIENT_CHANGES: u32 = 20;
 
-/// Reads the arguments of `nbns`. Refused, in this order: the first text that is no network, an empty path of the file of fixed names, and then
+/// Reads the arguments of `nbns`. Refused, in this order: the first text that is no network, an empty path of the file of networks, and of that of fixed names, and then
 /// as [`nbns_arguments`] has it. No name is fixed yet.
 pub fn server_arguments(alloc: Global, texts: &NbnsTexts<'_>) -> Result<ServerArguments, Failure>
     ensures { ReadsServer texts.now result }
 {
     let allowed = read_each(alloc, &Networks, Vec::new(alloc), texts.allow.as_slice())?;
-    expect_path(alloc, texts.fixed, ArgumentFault::NoFixed)?;
+    expect_paths(alloc, texts)?;
     nbns_arguments(alloc, texts, allowed)
+}
+
+/// Refuses an empty path of the file of networks, and then of that of fixed names.
+fn expect_paths(alloc: Global, texts: &NbnsTexts<'_>) -> Result<(), Failure>
+    ensures { NeedsPaths texts.now result }
+{
+    expect_path(alloc, texts.allow_file, ArgumentFault::NoAllowed)?;
+    expect_path(alloc, texts.fixed, ArgumentFault::NoFixed)?;
+    Ok(())
 }
 
 /// Reads all of them but the networks, which these are. Refused, in this order: the life, the longest lease, the time, a longest lease that is

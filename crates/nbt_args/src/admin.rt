@@ -243,7 +243,13 @@ pub static NBNS: Description = Description {
             name: "allow",
             form: Form::Options("NETWORK"),
             presence: Presence::Optional,
-            help: "A network whose machines may register, and may be repeated; without it, every machine may",
+            help: "A network whose machines may register, and may be repeated; without it and --allow-file, every machine may",
+        },
+        Argument {
+            name: "allow-file",
+            form: Form::Option("FILE"),
+            presence: Presence::Optional,
+            help: "The machines of the networks of this file may register too; without it and --allow, every machine may",
         },
         Argument {
             name: "fixed",
@@ -289,7 +295,7 @@ first line is `serving 192.0.2.1:137, with 17 leases kept`. Where it can't go on
 machine. FOLDER must exist, and one server at a time may use it: a second one ends with status 6, and prints nothing. It ends with
 status 3 if FOLDER is moved or replaced.
 
---check reads all arguments, the file of --fixed, what stands at each FILE, and FOLDER, and ends: nothing is bound, made or changed.
+--check reads all arguments, the files of --fixed and --allow-file, what stands at each FILE, and FOLDER, and ends: nothing is bound, made or changed.
 It prints how a server would begin that started now, as `would serve, with 17 leases kept`, or on standard error the first fault, with
 the status of a start. Whether an address is free, whether a file can be made in FOLDER, and whether a FILE can be written to, isn't
 tried. The status is 6 if another server uses FOLDER: the line then says what a start would do if that one ended now. --bind, --for,
@@ -318,14 +324,19 @@ A client is the address that a registration comes from. One with N live leases, 
 of a further name, with SRV_ERR; what it has it keeps, and renews. Machines behind one address count as one client.
 
 NETWORK is an address and how many of its first bits the others share, as 192.0.2.0/24, or an address alone. A machine of no NETWORK
-is refused each registration, refresh and overwrite, with RFS_ERR; it may still ask for names. --fixed reads FILE once, at the
-start: lines as `FILER#20 unique 192.0.2.7` and `OFFICE#00 group 192.0.2.9`, with spaces or tabs between the words, of which
-several of one group are its addresses, up to 48; up to 1024 names; a line that begins with # is a remark. `nbt import` makes such
-a file of an lmhosts or a wins.dat. Such a name is found from the first moment on, with the longest lease
+is refused each registration, refresh and overwrite, with RFS_ERR; it may still ask for names. --fixed reads FILE: lines as
+`FILER#20 unique 192.0.2.7` and `OFFICE#00 group 192.0.2.9`, with spaces or tabs between the words, of which several of one group
+are its addresses, up to 48; up to 1024 names; a line that begins with # is a remark. `nbt import` makes such a file of an lmhosts
+or a wins.dat. Such a name is found from the first moment on, with the longest lease
 as its TTL. Its own machine may register, refresh and release it, which changes nothing; nobody else may, with ACT_ERR. With --state
 a lease that another machine has of it wins until it ends, or is released: it is found, but not renewed, and the name's own machine
 gets ACT_ERR; standard error says so at the start. It says too what was refused, as `nbt: refused FILER#20 192.0.2.9: a fixed name`,
 at most ten lines per second.
+
+--allow-file reads FILE: a NETWORK a line, one at least; a line that begins with # is a remark. A FILE of --fixed or --allow-file that is
+replaced while the server runs is read within two seconds, and standard error says what changed, as `nbt: fixed names: 12; added
+LASER3#20`. A wrong line changes nothing. A lease that another machine has of a new name wins until it ends. A name that goes, or
+gets another address, is refused to other machines for the longest lease.
 
 Samba's nmbd registers its names by OPCODE 15, and joins groups by an overwrite. Such a registration of one address, and such an
 overwrite of a group, are accepted as registrations, unless --strict. A machine that registers two addresses isn't served: its
@@ -339,9 +350,9 @@ Examples:
 
 Exit status:
   0  done
-  2  wrong usage, which standard output explains; an invalid argument, or a wrong line in the file of --fixed, which standard
-     error explains
-  3  no port or no clock, a socket failed 100 times in a row, FOLDER can't be read or written, the file of --fixed can't be read,
+  2  wrong usage, which standard output explains; an invalid argument, or a wrong line in a file of --fixed or --allow-file, which
+     standard error explains
+  3  no port or no clock, a socket failed 100 times in a row, FOLDER can't be read or written, such a file can't be read,
      a FILE can't be replaced, or the output failed; prints `device`, unless it was FILE or the output
   4  out of memory at the start; prints `memory`
   6  another server uses FOLDER, as standard error says",

@@ -124,6 +124,8 @@ pub struct NbnsTexts<'a> {
     pub rows_per_client: Option<&'a str>,
     /// The networks whose machines may register; none for every machine.
     pub allow: Vec<&'a str>,
+    /// The path of the file of further such networks, if any.
+    pub allow_file: Option<&'a str>,
     /// The path of the file of fixed names, if any.
     pub fixed: Option<&'a str>,
     /// The folder that keeps the leases, if any.
@@ -304,6 +306,7 @@ fn nbns_texts<'a>(alloc: Global, matches: &ArgMatches<'a>) -> Result<NbnsTexts<'
     ensures strict { IfOk result (λ texts. Tells matches.now (codes "strict") texts.strict) }
     ensures client_rows { IfOk result (λ texts. option_map (λ text. text.now) texts.rows_per_client ≡ value_of matches.now (codes "rows-per-client")) }
     ensures allow { IfOk result (λ texts. map (λ text. text.now) texts.allow.items ≡ arguments_of matches.now (codes "allow")) }
+    ensures allow_file { IfOk result (λ texts. option_map (λ text. text.now) texts.allow_file ≡ value_of matches.now (codes "allow-file")) }
     ensures fixed { IfOk result (λ texts. option_map (λ text. text.now) texts.fixed ≡ value_of matches.now (codes "fixed")) }
     ensures state { IfOk result (λ texts. option_map (λ text. text.now) texts.state ≡ value_of matches.now (codes "state")) }
     ensures boots { IfOk result (λ texts. Tells matches.now (codes "silent-after-boot") texts.silent_after_boot) }
@@ -325,6 +328,7 @@ fn nbns_texts<'a>(alloc: Global, matches: &ArgMatches<'a>) -> Result<NbnsTexts<'
         strict: matches.get_flag("strict"),
         rows_per_client: matches.get_str("rows-per-client"),
         allow,
+        allow_file: matches.get_str("allow-file"),
         fixed: matches.get_str("fixed"),
         state: matches.get_str("state"),
         silent_after_boot: matches.get_flag("silent-after-boot"),

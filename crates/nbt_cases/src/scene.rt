@@ -11,6 +11,7 @@ mod paper;
 mod place;
 mod playing;
 mod port;
+mod renewed;
 mod repeat;
 mod script;
 mod server;

@@ -15,8 +15,8 @@ use Rattle.nbt_packet.specs.Message.{MessageValue, release}
 use Rattle.nbt_server.specs.Serving.{AsksFor, refusal, active_error}
 use Rattle.nbt_front.specs.FixedNames.{FixedValue, fixed_of}
 use Rattle.nbt_front.specs.Networks.{IsAllowed}
-use Rattle.nbt_front.specs.Standing.{IsLeased}
-use Rattle.nbt_front.specs.Deciding.{DeskValue, Claims, by_request, by_overwrite, IsHolder, MayHave, Decides, confirms, refuses, refuses_overwrite, confirms_release, refuses_release, finds, turns_away, Passes, IsAbout, claims_it, releases_it, queries_it, IsOfFixed, claims_fixed, about_free, IsUnallowed}
+use Rattle.nbt_front.specs.Standing.{IsLeased, is_taken}
+use Rattle.nbt_front.specs.Deciding.{DeskValue, Claims, by_request, by_overwrite, IsHolder, MayHave, Decides, confirms, refuses, refuses_overwrite, confirms_release, refuses_release, finds, refuses_past, turns_away, Passes, IsAbout, claims_it, releases_it, queries_it, IsOfFixed, claims_fixed, about_free, claims_past, IsUnallowed}
 use Rattle.nbt_front.specs.declared.deciding.Decision.{Decision}
 use Rattle.nbt_front.specs.declared.deciding.Decision.TheVariants.{FixedRefused}
 
@@ -72,25 +72,29 @@ module _ (now : ℕ) (name : NameValue) where
   leased_or_not : (kept : Rows) → IsLeased kept now name ⊎ ¬ IsLeased kept now name
   leased_or_not kept = leased_so kept (list_any stands kept) refl
 
+pub both_ways : {b : Bool} → b ≡ false → b ≡ true → ⊥
+both_ways e f = cc
+
 module _ (desk : DeskValue) (now ip : ℕ) where
   -- what is decided
   abbrev Is : MessageValue → Type 0
   Is m = (d : Decision) × (r : MessageValue) × Decides desk now ip m d r
 
-  asked : (m : MessageValue) (r : Registration) (fixed : FixedValue) → AsksFor m r → fixed_of desk.front.fixed r.name ≡ Some fixed → MayHave desk.kept now ip r.name r.kind r.addr fixed ⊎ ¬ MayHave desk.kept now ip r.name r.kind r.addr fixed → Is m
+  asked : (m : MessageValue) (r : Registration) (fixed : FixedValue) → AsksFor m r → fixed_of desk.front.fixed r.name ≡ Some fixed → MayHave desk now ip r.name r.kind r.addr fixed ⊎ ¬ MayHave desk now ip r.name r.kind r.addr fixed → Is m
   asked m r fixed asks is (inl has) = (_, _, confirms m r fixed asks is has)
   asked m r fixed asks is (inr not) = (_, _, refuses m r fixed asks is not)
 
-  has_so : (name : NameValue) (kind : Kind) (addr : ℕ) (fixed : FixedValue) → IsHolder ip kind addr fixed ⊎ ¬ IsHolder ip kind addr fixed → IsLeased desk.kept now name ⊎ ¬ IsLeased desk.kept now name
-      → MayHave desk.kept now ip name kind addr fixed ⊎ ¬ MayHave desk.kept now ip name kind addr fixed
-  has_so name kind addr fixed (inl holds) (inr free) = inl (record { holds = holds; free = free })
-  has_so name kind addr fixed (inr not) b = inr (λ h. not h.holds)
-  has_so name kind addr fixed (inl holds) (inl leased) = inr (λ h. h.free leased)
+  has_so : (name : NameValue) (kind : Kind) (addr : ℕ) (fixed : FixedValue) (b : Bool) → is_taken desk.past now name kind ip ≡ b → IsHolder ip kind addr fixed ⊎ ¬ IsHolder ip kind addr fixed → IsLeased desk.kept now name ⊎ ¬ IsLeased desk.kept now name
+      → MayHave desk now ip name kind addr fixed ⊎ ¬ MayHave desk now ip name kind addr fixed
+  has_so name kind addr fixed false quiet (inl holds) (inr free) = inl (record { holds = holds; free = free; quiet = quiet })
+  has_so name kind addr fixed true taken (inl holds) (inr free) = inr (λ h. both_ways h.quiet taken)
+  has_so name kind addr fixed b is (inr not) leased = inr (λ h. not h.holds)
+  has_so name kind addr fixed b is (inl holds) (inl leased) = inr (λ h. h.free leased)
 
-  has_or_may_not : (name : NameValue) (kind : Kind) (addr : ℕ) (fixed : FixedValue) → MayHave desk.kept now ip name kind addr fixed ⊎ ¬ MayHave desk.kept now ip name kind addr fixed
-  has_or_may_not name kind addr fixed = has_so name kind addr fixed (holds_or_not ip kind addr fixed) (leased_or_not now name desk.kept)
+  has_or_may_not : (name : NameValue) (kind : Kind) (addr : ℕ) (fixed : FixedValue) → MayHave desk now ip name kind addr fixed ⊎ ¬ MayHave desk now ip name kind addr fixed
+  has_or_may_not name kind addr fixed = has_so name kind addr fixed (is_taken desk.past now name kind ip) refl (holds_or_not ip kind addr fixed) (leased_or_not now name desk.kept)
 
-  claimed_fixed : (m : MessageValue) (r : Registration) (fixed : FixedValue) → Claims m r → fixed_of desk.front.fixed r.name ≡ Some fixed → Is m
+  pub claimed_fixed : (m : MessageValue) (r : Registration) (fixed : FixedValue) → Claims m r → fixed_of desk.front.fixed r.name ≡ Some fixed → Is m
   claimed_fixed _ _ fixed (by_request m r asks) is = asked m r fixed asks is (has_or_may_not r.name r.kind r.addr fixed)
   claimed_fixed _ _ fixed (by_overwrite r) is = (_, _, refuses_overwrite r fixed is)
 
@@ -104,7 +108,13 @@ module _ (desk : DeskValue) (now ip : ℕ) where
   of_free _ _ fixed (releases_it id name kind addr) is free = released id name kind addr fixed is free (holds_or_not ip kind addr fixed)
   of_free _ _ fixed (queries_it id name) is free = (_, _, finds id name fixed is free)
 
-  pub fixed_is_decided : (m : MessageValue) → IsOfFixed desk now m → Is m
+  -- one that another machine may hold by what was fixed before, by what is fixed of it
+  past_so : (m : MessageValue) (r : Registration) → Claims m r → IsAllowed desk.front.allowed ip → is_taken desk.past now r.name r.kind ip ≡ true → (found : Option FixedValue) → fixed_of desk.front.fixed r.name ≡ found → Is m
+  past_so m r claims allowed taken (Some fixed) is = claimed_fixed m r fixed claims is
+  past_so m r claims allowed taken None is = (_, _, refuses_past m r claims is allowed taken)
+
+  pub fixed_is_decided : (m : MessageValue) → IsOfFixed desk now ip m → Is m
+  fixed_is_decided _ (claims_past m r claims allowed taken) = past_so m r claims allowed taken (fixed_of desk.front.fixed r.name) refl
   fixed_is_decided _ (claims_fixed m r fixed claims is) = claimed_fixed m r fixed claims is
   fixed_is_decided _ (about_free m name fixed about is free) = of_free m name fixed about is free
 
@@ -115,13 +125,14 @@ module _ (desk : DeskValue) (now ip : ℕ) where
   pub unallowed_is_decided : (m : MessageValue) → IsUnallowed desk.front ip m → Is m
   unallowed_is_decided m un = claimed m un.0 un.1 un.2 (fixed_of desk.front.fixed un.0.name) refl
 
-  pub decided_is : (m : MessageValue) (d : Decision) (r : MessageValue) → Decides desk now ip m d r → IsOfFixed desk now m ⊎ IsUnallowed desk.front ip m
+  pub decided_is : (m : MessageValue) (d : Decision) (r : MessageValue) → Decides desk now ip m d r → IsOfFixed desk now ip m ⊎ IsUnallowed desk.front ip m
   decided_is _ _ _ (confirms m r fixed asks is has) = inl (claims_fixed m r fixed (by_request m r asks) is)
   decided_is _ _ _ (refuses m r fixed asks is not) = inl (claims_fixed m r fixed (by_request m r asks) is)
   decided_is _ _ _ (refuses_overwrite r fixed is) = inl (claims_fixed _ r fixed (by_overwrite r) is)
   decided_is _ _ _ (confirms_release id name kind addr fixed is free holds) = inl (about_free _ name fixed (releases_it id name kind addr) is free)
   decided_is _ _ _ (refuses_release id name kind addr fixed is free not) = inl (about_free _ name fixed (releases_it id name kind addr) is free)
   decided_is _ _ _ (finds id name fixed is free) = inl (about_free _ name fixed (queries_it id name) is free)
+  decided_is _ _ _ (refuses_past m r claims free allowed taken) = inl (claims_past m r claims allowed taken)
   decided_is _ _ _ (turns_away m r claims free not) = inr (r, claims, not)
 
   -- ---- while a lease stands
@@ -135,13 +146,17 @@ module _ (desk : DeskValue) (now ip : ℕ) where
   none_fixed : (name : NameValue) (fixed : FixedValue) → desk.front.fixed ≡ [] → fixed_of desk.front.fixed name ≡ Some fixed → ⊥
   none_fixed name fixed none is = let e : ◌≡◌ {A = Option FixedValue} None (Some fixed) = rw none at is in absurd cc
 
-  none_of_fixed : (m : MessageValue) → desk.front.fixed ≡ [] → IsOfFixed desk now m → ⊥
-  none_of_fixed _ none (claims_fixed m r fixed claims is) = none_fixed r.name fixed none is
-  none_of_fixed _ none (about_free m name fixed about is free) = none_fixed name fixed none is
+  none_taken : (name : NameValue) (kind : Kind) → desk.past ≡ [] → is_taken desk.past now name kind ip ≡ true → ⊥
+  none_taken name kind no_past taken = let e : false ≡ true = rw no_past at taken in cc
 
-  open_so : (m : MessageValue) → desk.front.allowed ≡ [] → desk.front.fixed ≡ [] → IsOfFixed desk now m ⊎ IsUnallowed desk.front ip m → ⊥
-  open_so m everybody none (inl of) = none_of_fixed m none of
-  open_so m everybody none (inr un) = un.2 (inl everybody)
+  none_of_fixed : (m : MessageValue) → desk.front.fixed ≡ [] → desk.past ≡ [] → IsOfFixed desk now ip m → ⊥
+  none_of_fixed _ none no_past (claims_fixed m r fixed claims is) = none_fixed r.name fixed none is
+  none_of_fixed _ none no_past (about_free m name fixed about is free) = none_fixed name fixed none is
+  none_of_fixed _ none no_past (claims_past m r claims allowed taken) = none_taken r.name r.kind no_past taken
 
-  pub decides_nothing : (m : MessageValue) → desk.front.allowed ≡ [] → desk.front.fixed ≡ [] → Passes desk now ip m
-  decides_nothing m everybody none d r decides = open_so m everybody none (decided_is m d r decides)
+  open_so : (m : MessageValue) → desk.front.allowed ≡ [] → desk.front.fixed ≡ [] → desk.past ≡ [] → IsOfFixed desk now ip m ⊎ IsUnallowed desk.front ip m → ⊥
+  open_so m everybody none no_past (inl of) = none_of_fixed m none no_past of
+  open_so m everybody none no_past (inr un) = un.2 (inl everybody)
+
+  pub decides_nothing : (m : MessageValue) → desk.front.allowed ≡ [] → desk.front.fixed ≡ [] → desk.past ≡ [] → Passes desk now ip m
+  decides_nothing m everybody none no_past d r decides = open_so m everybody none no_past (decided_is m d r decides)

@@ -1,5 +1,5 @@
 -- What becomes of a receive beneath a front.
-use Rattle.std.proofs.Common.{◌≡◌, ℕ, List, Option, Some, None, Result, Ok, Err, sym, ap, subst}
+use Rattle.std.proofs.Common.{◌≡◌, ℕ, List, Option, Some, None, Result, Ok, Err, refl, sym, subst}
 use Rattle.nbt_name.specs.Wire.{NameValue}
 use Rattle.nbt_lease.specs.Lease.{Rows}
 use Rattle.nbt_packet.specs.Message.{MessageValue}
@@ -21,6 +21,10 @@ same_octets e = cc
 -- a port and the front at work before it
 abbrev pub with_desk : {P : Type 0} → DeskValue → P → Fronted P
 with_desk desk port = record { port = port; desk = desk }
+
+-- what is left of a desk's leases, behind the same front
+pub same_desk : (new desk : DeskValue) → new.front ≡ desk.front → new.past ≡ desk.past → desk_of desk.front new.kept desk.past ≡ new
+same_desk new desk f p = rw (← f, ← p) refl
 
 -- ---- what is no datagram
 
@@ -54,9 +58,9 @@ module _ {P : Type 0} (does : P → PortCall → P → Type 0) (desk : DeskValue
     came_so : does before (came route octets) mid
     came_so = subst (λ o. does before (receiving (Ok o) octets) mid) some did
 
-    pub hands_other : (new : DeskValue) → new.front ≡ desk.front → ((m : MessageValue) → Spells octets m → Passes desk now route.peer.ip m) → Leaves desk.kept (came route octets) new.kept
+    pub hands_other : (new : DeskValue) → new.front ≡ desk.front → new.past ≡ desk.past → ((m : MessageValue) → Spells octets m → Passes desk now route.peer.ip m) → Leaves desk.kept (came route octets) new.kept
         → FrontDoes does (with_desk desk before) (came route octets) (with_desk new mid)
-    hands_other new front passes leaves = subst (λ (d : DeskValue). FrontDoes does (with_desk desk before) (came route octets) (with_desk d mid)) (sym (ap (λ (f : FrontValue). desk_of f new.kept) front))
+    hands_other new front past passes leaves = subst (λ (d : DeskValue). FrontDoes does (with_desk desk before) (came route octets) (with_desk d mid)) (same_desk new desk front past)
         (hands_on now (came route octets) mid new.kept came_so (λ from others d r e decides.
         passes decides.0 (subst (λ (xs : List ℕ). Spells xs decides.0) (sym (same_octets e)) decides.1) d r (subst (λ (a : Route). Decides desk now a.peer.ip decides.0 d r) (sym (same_from e)) decides.2)) leaves)
 

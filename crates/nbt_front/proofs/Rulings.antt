@@ -11,10 +11,11 @@ use Rattle.nbt_packet.specs.Spelling.{Spells}
 use Rattle.nbt_server.specs.Serving.{by_registration, by_refresh}
 use Rattle.nbt_front.specs.FixedNames.{fixed_of}
 use Rattle.nbt_front.specs.Networks.{IsAllowed}
-use Rattle.nbt_front.specs.Standing.{IsLeased}
+use Rattle.nbt_front.specs.Standing.{IsLeased, is_taken}
 use Rattle.nbt_front.specs.Deciding.{DeskValue, Claims, by_request, by_overwrite, Passes}
 use Rattle.nbt_front.specs.declared.deciding.Decision.{Decision}
-use Rattle.nbt_front.proofs.OneDecision.{Asked, Overwritten, Gets, gets, not_both}
+use Rattle.nbt_front.proofs.Decided.{both_ways}
+use Rattle.nbt_front.proofs.OneDecision.{Asked, Other, Overwritten, Gets, gets, not_both}
 
 pub if_some : {X : Type 0} {P Q : X → Type 0} (found : Option X) → ((x : X) → P x → Q x) → IfSome found P → IfSome found Q
 if_some None more was = tt
@@ -34,19 +35,23 @@ if_none None more was = more was
 if_none (Some x) more was = tt
 
 module _ (desk : DeskValue) (now ip : ℕ) where
-  asked_not : (r : Registration) (d : Decision) (reply : MessageValue) → fixed_of desk.front.fixed r.name ≡ None → IsAllowed desk.front.allowed ip → Asked desk now ip r d reply → ⊥
-  asked_not r d reply free allowed (inl a) = not_both a.1 free
-  asked_not r d reply free allowed (inr (inl a)) = not_both a.1 free
-  asked_not r d reply free allowed (inr (inr a)) = a.1 allowed
+  other_not : (r : Registration) (d : Decision) (reply : MessageValue) → IsAllowed desk.front.allowed ip → is_taken desk.past now r.name r.kind ip ≡ false → Other desk now ip r d reply → ⊥
+  other_not r d reply allowed quiet (inl a) = both_ways quiet a.4
+  other_not r d reply allowed quiet (inr a) = a.1 allowed
 
-  overwritten_not : (r : Registration) (d : Decision) (reply : MessageValue) → fixed_of desk.front.fixed r.name ≡ None → IsAllowed desk.front.allowed ip → Overwritten desk now ip r d reply → ⊥
-  overwritten_not r d reply free allowed (inl a) = not_both a.1 free
-  overwritten_not r d reply free allowed (inr a) = a.1 allowed
+  asked_not : (r : Registration) (d : Decision) (reply : MessageValue) → fixed_of desk.front.fixed r.name ≡ None → IsAllowed desk.front.allowed ip → is_taken desk.past now r.name r.kind ip ≡ false → Asked desk now ip r d reply → ⊥
+  asked_not r d reply free allowed quiet (inl a) = not_both a.1 free
+  asked_not r d reply free allowed quiet (inr (inl a)) = not_both a.1 free
+  asked_not r d reply free allowed quiet (inr (inr a)) = other_not r d reply allowed quiet a
 
-  pub claim_passes : (m : MessageValue) (r : Registration) → fixed_of desk.front.fixed r.name ≡ None → IsAllowed desk.front.allowed ip → Claims m r → Passes desk now ip m
-  claim_passes _ _ free allowed (by_request _ _ (by_registration r)) d reply decides = asked_not r d reply free allowed (gets desk now ip (registration r) d reply decides)
-  claim_passes _ _ free allowed (by_request _ _ (by_refresh r)) d reply decides = asked_not r d reply free allowed (gets desk now ip (refresh r) d reply decides)
-  claim_passes _ _ free allowed (by_overwrite r) d reply decides = overwritten_not r d reply free allowed (gets desk now ip (overwrite r) d reply decides)
+  overwritten_not : (r : Registration) (d : Decision) (reply : MessageValue) → fixed_of desk.front.fixed r.name ≡ None → IsAllowed desk.front.allowed ip → is_taken desk.past now r.name r.kind ip ≡ false → Overwritten desk now ip r d reply → ⊥
+  overwritten_not r d reply free allowed quiet (inl a) = not_both a.1 free
+  overwritten_not r d reply free allowed quiet (inr a) = other_not r d reply allowed quiet a
+
+  pub claim_passes : (m : MessageValue) (r : Registration) → fixed_of desk.front.fixed r.name ≡ None → IsAllowed desk.front.allowed ip → is_taken desk.past now r.name r.kind ip ≡ false → Claims m r → Passes desk now ip m
+  claim_passes _ _ free allowed quiet (by_request _ _ (by_registration r)) d reply decides = asked_not r d reply free allowed quiet (gets desk now ip (registration r) d reply decides)
+  claim_passes _ _ free allowed quiet (by_request _ _ (by_refresh r)) d reply decides = asked_not r d reply free allowed quiet (gets desk now ip (refresh r) d reply decides)
+  claim_passes _ _ free allowed quiet (by_overwrite r) d reply decides = overwritten_not r d reply free allowed quiet (gets desk now ip (overwrite r) d reply decides)
 
   released_not : (id : ℕ) (name : NameValue) (kind : Kind) (addr : ℕ) (d : Decision) (reply : MessageValue) → fixed_of desk.front.fixed name ≡ None → Gets desk now ip (release id name kind addr) d reply → ⊥
   released_not id name kind addr d reply free (inl a) = not_both a.1 free

@@ -23,7 +23,7 @@ IsOther desk now call = (from : Route) (octets : List ℕ) (decision : Decision)
 -- failed. The front stays. At which moment it decides no contract says.
 pub data FrontDoes {P : Type 0} (does : P → PortCall → P → Type 0) (old : Fronted P) : PortCall → Fronted P → Type 0 where
   hands_on : (now : ℕ) (call : PortCall) (port : P) (kept : Rows) → does old.port call port → IsOther old.desk now call → Leaves old.desk.kept call kept
-      → FrontDoes does old call (record { port = port; desk = desk_of old.desk.front kept })
+      → FrontDoes does old call (record { port = port; desk = desk_of old.desk.front kept old.desk.past })
   answers : (now : ℕ) (from : Route) (octets : List ℕ) (decision : Decision) (reply : MessageValue) (mid port : P) → DecidesOctets old.desk now from.peer.ip octets decision reply
       → does old.port (came from octets) mid → does mid (sent from (text reply)) port → FrontDoes does old nothing_came (record { port = port; desk = old.desk })
   can_not_answer : (now : ℕ) (from : Route) (octets : List ℕ) (decision : Decision) (reply : MessageValue) (mid port : P) → DecidesOctets old.desk now from.peer.ip octets decision reply

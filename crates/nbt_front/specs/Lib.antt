@@ -3,6 +3,7 @@ pub mod Files
 pub mod FixedNames
 pub mod FrontPort
 pub mod Inner
+pub mod NetworkFiles
 pub mod Networks
 pub mod Numbers
 pub mod Standing

@@ -1,6 +1,6 @@
 -- Leases that stand in the way of fixed names: the server goes on with them, and another machine than the name's may hold the name by
 -- them until they end (our profile).
-use Rattle.std.specs.Prelude.{◌≡◌, ℕ, ◌<◌, Bool, true, false, not, ◌&&◌, nat_eq, List, [], filter, Any, Option, Some, None}
+use Rattle.std.specs.Prelude.{◌≡◌, ℕ, ◌<◌, Bool, true, false, not, ◌&&◌, nat_eq, nat_lt, List, [], filter, map, Any, Option, Some, None}
 use Rattle.std.specs.List.{list_any}
 use Rattle.nbt_name.specs.Wire.{NameValue, same_name}
 use Rattle.nbt_name.specs.declared.addr.Kind.{Kind}
@@ -52,3 +52,25 @@ pub data Leaves (kept : Rows) : PortCall → Rows → Type 0 where
   takes_out : (from : Route) (octets : List ℕ) (name : NameValue) → ReleasesOwn from.peer.ip octets name → Leaves kept (came from octets) (without name from.peer.ip kept)
   leaves_all : (call : PortCall) → ¬ IsOwnRelease call → Leaves kept call kept
   leaves_none : (call : PortCall) → kept ≡ [] → Leaves kept call kept
+
+-- ---- names that were fixed otherwise before: a machine that was confirmed may hold its name for the longest lease
+
+-- what machines may have by what was fixed of a name: a lease for each of its addresses, until then
+abbrev pub leases_of : (end : ℕ) → NameValue × FixedValue → Rows
+leases_of end entry = map (λ addr. (entry.0, record { addr = addr; kind = entry.1.kind; end = end })) entry.1.addrs
+
+-- Another machine could get the name of such a lease: the name is fixed no longer, or the lease stands in its way.
+abbrev pub is_left : Option FixedValue → Lease → Bool
+is_left None lease = true
+is_left (Some fixed) lease = is_in_the_way (Some fixed) lease
+
+-- those of these leases, but those that are over
+abbrev pub left_of : FixedNames → (at : ℕ) → Rows → Rows
+left_of names at rows = filter (λ row. nat_lt at row.1.end && is_left (fixed_of names row.0) row.1) rows
+
+-- One of these leases isn't over, and a claim of the name from this address, as this kind, would make a second holder.
+abbrev pub takes : (now : ℕ) → NameValue → Kind → (ip : ℕ) → NameValue × Lease → Bool
+takes now name kind ip row = same_name row.0 name && (nat_lt now row.1.end && (not (are_group kind row.1.kind) && not (nat_eq ip row.1.addr)))
+
+abbrev pub is_taken : Rows → (now : ℕ) → NameValue → Kind → (ip : ℕ) → Bool
+is_taken past now name kind ip = list_any (takes now name kind ip) past

@@ -1,22 +1,25 @@
 //! What a front decides of a datagram.
 
-ghost use Rattle.std.specs.Prelude.{◌≡◌, ◌↔◌, ◌≤◌, ℕ, false, [], Some, None, IsTrue, IfSome, IfNone};
+ghost use Rattle.std.specs.Prelude.{◌≡◌, ◌↔◌, ◌≤◌, ◌+◌, ◌++◌, ℕ, false, [], Some, None, IsTrue, IfSome, IfNone, OnOk};
+ghost use Rattle.std.specs.List.{flat_map};
 ghost use Rattle.nbt_packet.specs.Message.{MessageValue, found, message_of, overwrite, query, registered, release, released};
 ghost use Rattle.nbt_packet.specs.Spelling.{AreWritten, Spells};
-ghost use Rattle.nbt_lease.specs.Lease.{Rows};
 ghost use Rattle.nbt_server.specs.Serving.{AsksFor};
 ghost use Rattle.nbt_front.specs.FixedNames.{fixed_of};
 ghost use Rattle.nbt_front.specs.Networks.{IsAllowed};
-ghost use Rattle.nbt_front.specs.Deciding.{Claims, Decides, desk_of, entries_of, Passes};
+ghost use Rattle.nbt_front.specs.Standing.{leases_of};
+ghost use Rattle.nbt_lease.specs.Config.{milliseconds};
+ghost use Rattle.nbt_front.specs.Deciding.{Claims, Decides, desk_at, entries_of, Passes};
 
 use crate::fixed::Fixed;
 use crate::names::FixedNames;
 use crate::network::{Network, is_in_any};
 use crate::standing::Standing;
 use arrayvec::ArrayVec;
-use nbt_lease::Config;
+use nbt_lease::{Config, Lease, Moment};
 use nbt_name::{Addr, Kind, Name};
 use nbt_packet::{Message, Registration, entries_most, read, write};
+use std::alloc::{AllocError, Global};
 use std::marker::Model;
 
 /// RCODE RFS_ERR: the server refuses the sender (RFC 1002 section 4.2.6).
@@ -25,13 +28,16 @@ const REFUSED: u8 = 5;
 /// RCODE ACT_ERR: another node has the name (RFC 1002 sections 4.2.6 and 4.2.11).
 const ACTIVE: u8 = 6;
 
+/// The milliseconds of a second.
+const SECOND: u64 = 1_000;
+
 /// What a front decided of a datagram.
 #[derive(Debug, PartialEq, Eq, Drop)]
 pub enum Decision {
     /// A claim of this name was refused, since its sender may not register (RCODE 5).
     NotAllowed(Name),
     /// A claim or a release of this name was refused, since the name is fixed, and not the sender's; or a claim, since a lease stands in the
-    /// name's way (RCODE 6).
+    /// name's way, or since another machine may hold the name by what was fixed before (RCODE 6).
     FixedRefused(Name),
     /// A registration, a refresh or a release of a fixed name by one of its addresses was confirmed. It changes nothing.
     FixedConfirmed,
@@ -43,8 +49,17 @@ pub enum Decision {
 #[derive(Drop)]
 pub struct Front {
     allowed: Vec<Network>,
+    given: usize,
     fixed: FixedNames,
     config: Config,
+    files: FrontPaths,
+}
+
+/// The paths of the files from which a front is read, if there are any.
+#[derive(Drop)]
+struct FrontPaths {
+    networks: Option<String>,
+    fixed: Option<String>,
 }
 
 impl Model for Front {
@@ -61,10 +76,54 @@ impl Front {
         ensures { result ≡ record { allowed = allowed.items; fixed = fixed; longest = config.longest } }
     {
         Front {
+            given: allowed.len(),
             allowed,
             fixed,
             config,
+            files: FrontPaths {
+                networks: None,
+                fixed: None,
+            },
         }
+    }
+
+    /// The same, read from the files of these paths, where there are such: as of now, its networks are those that weren't in one.
+    pub fn read_from(&mut self, networks: Option<String>, fixed: Option<String>)
+        ensures { self.new ≡ self.old }
+    {
+        self.given = self.allowed.len();
+        self.files = FrontPaths { networks, fixed };
+    }
+
+    /// The path of the file of its networks, if there is one.
+    pub fn networks_path(&self) -> Option<&str> {
+        self.files.networks.as_deref()
+    }
+
+    /// The path of the file of its fixed names, if there is one.
+    pub fn fixed_path(&self) -> Option<&str> {
+        self.files.fixed.as_deref()
+    }
+
+    /// The front of those of its networks that were in no file, without names.
+    pub fn given(&self, alloc: Global) -> Result<Front, AllocError> {
+        let given = self.given.min(self.allowed.len());
+        let allowed = Vec::from_slice(alloc, &self.allowed.as_slice()[..given])?;
+        Ok(Front::new(allowed, FixedNames::none(alloc), self.config))
+    }
+
+    /// The same where senders of these networks may register too.
+    pub fn allow(&mut self, networks: Vec<Network>) -> Result<(), AllocError>
+        ensures { OnOk result (self.new ≡ record self.old { allowed = self.old.allowed ++ networks.items }) }
+    {
+        self.allowed.extend_from_slice(networks.as_slice())
+    }
+
+    /// The networks whose senders may register; without one everybody may.
+    pub fn allowed(&self) -> &[Network]
+        ensures { result.now ≡ self.now.allowed }
+    {
+        self.allowed.as_slice()
     }
 
     /// The same with these names fixed.
@@ -81,6 +140,18 @@ impl Front {
         &self.fixed
     }
 
+    /// Appends the leases that machines may have by what is fixed, and confirmed until this moment: they end once the longest lease has passed.
+    pub(crate) fn list_leases(
+        &self,
+        at: Moment,
+        rows: &mut Vec<(Name, Lease)>,
+    ) -> Result<(), AllocError>
+        ensures { OnOk result (rows.new.items ≡ rows.old.items ++ flat_map (leases_of (at + milliseconds self.now.longest)) self.now.fixed) }
+    {
+        let end = at.get() + SECOND * u64::from(self.config.longest());
+        self.fixed.list_leases(end, rows)
+    }
+
     /// What it decides of a datagram from an address, while these leases stand in the way of its names, and in `reply` the reply; `None`
     /// where it leaves the datagram to the server, and then `reply` is as it was.
     pub fn decide(
@@ -91,11 +162,11 @@ impl Front {
         reply: &mut ArrayVec<u8, 576>,
     ) -> Option<Decision>
         ensures decided { IfSome result (λ decision. (m : MessageValue) × (r : MessageValue) × Spells octets.now m
-            × Decides (desk_of self.now standing.now.rows.now) standing.now.at from.ip m decision r × AreWritten (Some r) reply.new.items) }
-        ensures passed { IfNone result ((m : MessageValue) → Spells octets.now m → Passes (desk_of self.now standing.now.rows.now) standing.now.at from.ip m) }
+            × Decides (desk_at self.now standing.now) standing.now.at from.ip m decision r × AreWritten (Some r) reply.new.items) }
+        ensures passed { IfNone result ((m : MessageValue) → Spells octets.now m → Passes (desk_at self.now standing.now) standing.now.at from.ip m) }
         ensures left { IfNone result (reply.new.items ≡ reply.old.items) }
     {
-        if self.is_open() {
+        if self.is_open() && standing.past.is_empty() {
             return None;
         }
         let message = read(octets)?;
@@ -117,14 +188,14 @@ impl Front {
         standing: &Standing<'_>,
         reply: &mut ArrayVec<u8, 576>,
     ) -> Option<Decision>
-        ensures decided { IfSome result (λ decision. (r : MessageValue) × Decides (desk_of self.now standing.now.rows.now) standing.now.at ip (message_of message.entry) decision r × AreWritten (Some r) reply.new.items) }
-        ensures passed { IfNone result (Passes (desk_of self.now standing.now.rows.now) standing.now.at ip (message_of message.entry)) }
+        ensures decided { IfSome result (λ decision. (r : MessageValue) × Decides (desk_at self.now standing.now) standing.now.at ip (message_of message.entry) decision r × AreWritten (Some r) reply.new.items) }
+        ensures passed { IfNone result (Passes (desk_at self.now standing.now) standing.now.at ip (message_of message.entry)) }
         ensures left { IfNone result (reply.new.items ≡ reply.old.items) }
     {
         match message {
             Message::Registration(claim) => self.claim(ip, claim, standing, reply),
             Message::Refresh(claim) => self.claim(ip, claim, standing, reply),
-            Message::Overwrite(claim) => self.overwrite(ip, claim, reply),
+            Message::Overwrite(claim) => self.overwrite(ip, claim, standing, reply),
             Message::Release {
                 id,
                 name,
@@ -144,16 +215,16 @@ impl Front {
         standing: &Standing<'_>,
         reply: &mut ArrayVec<u8, 576>,
     ) -> Option<Decision>
-        ensures decided { IfSome result (λ decision. (m : MessageValue) → AsksFor m claim.entry → (r : MessageValue) × Decides (desk_of self.now standing.now.rows.now) standing.now.at ip m decision r × AreWritten (Some r) reply.new.items) }
-        ensures passed { IfNone result ((m : MessageValue) → AsksFor m claim.entry → Passes (desk_of self.now standing.now.rows.now) standing.now.at ip m) }
+        ensures decided { IfSome result (λ decision. (m : MessageValue) → AsksFor m claim.entry → (r : MessageValue) × Decides (desk_at self.now standing.now) standing.now.at ip m decision r × AreWritten (Some r) reply.new.items) }
+        ensures passed { IfNone result ((m : MessageValue) → AsksFor m claim.entry → Passes (desk_at self.now standing.now) standing.now.at ip m) }
         ensures left { IfNone result (reply.new.items ≡ reply.old.items) }
     {
         let name = claim.name.to_name();
         let Some(fixed) = self.fixed.get(&name) else {
-            return self.turn_away(ip, claim, reply);
+            return self.turn_away(ip, claim, standing, reply);
         };
         let holds = fixed.is_held_by(ip, claim.kind, claim.addr);
-        if holds && !standing.has(&name) {
+        if holds && standing.is_free(&name, claim.kind, ip) {
             let seconds = self.config.granted(claim.ttl);
             respond(claim, 0, seconds, reply);
             return Some(Decision::FixedConfirmed);
@@ -167,10 +238,11 @@ impl Front {
         &self,
         ip: u32,
         claim: Registration<'_>,
+        standing: &Standing<'_>,
         reply: &mut ArrayVec<u8, 576>,
     ) -> Option<Decision>
-        ensures decided { (kept : Rows) (at : ℕ) → IfSome result (λ decision. (r : MessageValue) × Decides (desk_of self.now kept) at ip (overwrite claim.entry) decision r × AreWritten (Some r) reply.new.items) }
-        ensures passed { (kept : Rows) (at : ℕ) → IfNone result (Passes (desk_of self.now kept) at ip (overwrite claim.entry)) }
+        ensures decided { IfSome result (λ decision. (r : MessageValue) × Decides (desk_at self.now standing.now) standing.now.at ip (overwrite claim.entry) decision r × AreWritten (Some r) reply.new.items) }
+        ensures passed { IfNone result (Passes (desk_at self.now standing.now) standing.now.at ip (overwrite claim.entry)) }
         ensures left { IfNone result (reply.new.items ≡ reply.old.items) }
     {
         let name = claim.name.to_name();
@@ -179,27 +251,34 @@ impl Front {
                 let name = respond(claim, ACTIVE, 0, reply);
                 Some(Decision::FixedRefused(name))
             }
-            None => self.turn_away(ip, claim, reply),
+            None => self.turn_away(ip, claim, standing, reply),
         }
     }
 
-    /// Refuses the claim of a name that isn't fixed, where its sender may not register.
+    /// Refuses the claim of a name that isn't fixed, where its sender may not register, or another machine may hold the name by what was fixed
+    /// before.
     fn turn_away(
         &self,
         ip: u32,
         claim: Registration<'_>,
+        standing: &Standing<'_>,
         reply: &mut ArrayVec<u8, 576>,
     ) -> Option<Decision>
         requires free { fixed_of self.now.fixed claim.name ≡ None }
-        ensures decided { (kept : Rows) (at : ℕ) → IfSome result (λ decision. (m : MessageValue) → Claims m claim.entry → (r : MessageValue) × Decides (desk_of self.now kept) at ip m decision r × AreWritten (Some r) reply.new.items) }
-        ensures passed { (kept : Rows) (at : ℕ) → IfNone result ((m : MessageValue) → Claims m claim.entry → Passes (desk_of self.now kept) at ip m) }
+        ensures decided { IfSome result (λ decision. (m : MessageValue) → Claims m claim.entry → (r : MessageValue) × Decides (desk_at self.now standing.now) standing.now.at ip m decision r × AreWritten (Some r) reply.new.items) }
+        ensures passed { IfNone result ((m : MessageValue) → Claims m claim.entry → Passes (desk_at self.now standing.now) standing.now.at ip m) }
         ensures left { IfNone result (reply.new.items ≡ reply.old.items) }
     {
-        if self.allows(ip) {
+        if !self.allows(ip) {
+            let name = respond(claim, REFUSED, 0, reply);
+            return Some(Decision::NotAllowed(name));
+        }
+        let name = claim.name.to_name();
+        if !standing.is_taken(&name, claim.kind, ip) {
             return None;
         }
-        let name = respond(claim, REFUSED, 0, reply);
-        Some(Decision::NotAllowed(name))
+        let name = respond(claim, ACTIVE, 0, reply);
+        Some(Decision::FixedRefused(name))
     }
 
     /// Whether this sender may register.
@@ -220,8 +299,8 @@ impl Front {
         standing: &Standing<'_>,
         reply: &mut ArrayVec<u8, 576>,
     ) -> Option<Decision>
-        ensures decided { IfSome result (λ decision. (r : MessageValue) × Decides (desk_of self.now standing.now.rows.now) standing.now.at ip (release id name kind addr) decision r × AreWritten (Some r) reply.new.items) }
-        ensures passed { IfNone result (Passes (desk_of self.now standing.now.rows.now) standing.now.at ip (release id name kind addr)) }
+        ensures decided { IfSome result (λ decision. (r : MessageValue) × Decides (desk_at self.now standing.now) standing.now.at ip (release id name kind addr) decision r × AreWritten (Some r) reply.new.items) }
+        ensures passed { IfNone result (Passes (desk_at self.now standing.now) standing.now.at ip (release id name kind addr)) }
         ensures left { IfNone result (reply.new.items ≡ reply.old.items) }
     {
         let fixed = self.fixed.get(&name)?;
@@ -245,8 +324,8 @@ impl Front {
         standing: &Standing<'_>,
         reply: &mut ArrayVec<u8, 576>,
     ) -> Option<Decision>
-        ensures decided { (ip : ℕ) → IfSome result (λ decision. (r : MessageValue) × Decides (desk_of self.now standing.now.rows.now) standing.now.at ip (query id name) decision r × AreWritten (Some r) reply.new.items) }
-        ensures passed { (ip : ℕ) → IfNone result (Passes (desk_of self.now standing.now.rows.now) standing.now.at ip (query id name)) }
+        ensures decided { (ip : ℕ) → IfSome result (λ decision. (r : MessageValue) × Decides (desk_at self.now standing.now) standing.now.at ip (query id name) decision r × AreWritten (Some r) reply.new.items) }
+        ensures passed { (ip : ℕ) → IfNone result (Passes (desk_at self.now standing.now) standing.now.at ip (query id name)) }
         ensures left { IfNone result (reply.new.items ≡ reply.old.items) }
     {
         let fixed = self.fixed.get(&name)?;

@@ -1,18 +1,19 @@
 //! What is fixed of a name.
 
-ghost use Rattle.std.specs.Prelude.{◌≡◌, ◌↔◌, ℕ, ◌<◌, ◌≤◌, not, nat_eq, Some, None, IsTrue, Contains, length, IfOk, IfErr};
+ghost use Rattle.std.specs.Prelude.{◌≡◌, ◌↔◌, ◌++◌, ℕ, ◌<◌, ◌≤◌, not, nat_eq, Some, None, IsTrue, Contains, length, IfOk, IfErr, OnOk};
 ghost use Rattle.std.specs.List.{list_any};
 ghost use Rattle.nbt_front.specs.Files.{IsBarred, Joins};
 ghost use Rattle.nbt_front.specs.Deciding.{IsHolder, entries_of};
 ghost use Rattle.nbt_front.specs.Numbers.{addrs_most};
-ghost use Rattle.nbt_front.specs.Standing.{are_group, is_in_the_way};
+ghost use Rattle.nbt_front.specs.Standing.{are_group, is_in_the_way, leases_of};
 
 use crate::fault::LineFault;
 use crate::line::FixedLine;
 use arrayvec::ArrayVec;
 use nbt_lease::Lease;
-use nbt_name::Kind;
+use nbt_name::{Kind, Name};
 use nbt_packet::entry_octets;
+use std::alloc::AllocError;
 use std::marker::Model;
 
 /// The most addresses of a group: they fit beside any name in a response of 576 octets (RFC 1002 section 4.2.13, our profile).
@@ -93,6 +94,11 @@ impl Fixed {
         self.addrs.as_slice()
     }
 
+    /// Whether it has the kind and the addresses of another one, in the same order.
+    pub(crate) fn is_same_as(&self, other: &Fixed) -> bool {
+        self.kind == other.kind && self.addrs.as_slice() == other.addrs.as_slice()
+    }
+
     /// Whether one of its addresses is this.
     fn has(&self, addr: u32) -> bool
         ensures { IsTrue result ↔ Contains self.now.addrs addr }
@@ -112,6 +118,25 @@ impl Fixed {
         ensures { result ≡ is_in_the_way (Some self.now) lease.now }
     {
         !are_group(self.kind, lease.kind) && self.has_other(lease.addr)
+    }
+
+    /// Appends the leases that machines may have by what is fixed of a name, one for each address, which end then.
+    pub(crate) fn list_leases(
+        &self,
+        name: &Name,
+        end: u64,
+        rows: &mut Vec<(Name, Lease)>,
+    ) -> Result<(), AllocError>
+        ensures { OnOk result (rows.new.items ≡ rows.old.items ++ leases_of end (name.now, self.now)) }
+    {
+        let kind = self.kind;
+        let mut rest = self.addrs.as_slice();
+        'addrs: while let Some((addr, others)) = rest.split_first() {
+            let addr = *addr;
+            rows.push((name.lend().to_name(), Lease { addr, kind, end }))?;
+            rest = others;
+        }
+        Ok(())
     }
 
     /// Whether one of its addresses is another one than this.
@@ -135,7 +160,7 @@ impl Fixed {
 }
 
 /// Whether both are a group.
-fn are_group(one: Kind, other: Kind) -> bool
+pub(crate) fn are_group(one: Kind, other: Kind) -> bool
     ensures { result ≡ are_group one other }
 {
     one == Kind::Group && other == Kind::Group

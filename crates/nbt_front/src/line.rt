@@ -52,7 +52,7 @@ pub fn take_line(alloc: Global, text: &[u8], names: &mut FixedNames) -> Result<(
 }
 
 /// What a line says: a carriage return at its end is a part of what ends it.
-fn said(text: &[u8]) -> &[u8]
+pub(crate) fn said(text: &[u8]) -> &[u8]
     ensures { result.now ≡ said text.now }
 {
     text.strip_suffix(b"\r").unwrap_or(text)

@@ -1,16 +1,17 @@
 //! The names that are fixed.
 
-ghost use Rattle.std.specs.Prelude.{◌≡◌, ◌↔◌, ◌<◌, Some, None, [], IsTrue, IfSome, IfNone, OnOk, IfOk, IfErr, length};
+ghost use Rattle.std.specs.Prelude.{◌≡◌, ◌↔◌, ◌<◌, ◌++◌, Some, None, [], IsTrue, IfSome, IfNone, OnOk, IfOk, IfErr, length};
 ghost use Rattle.nbt_front.specs.FixedNames.{capitals_of, fixed_of};
 ghost use Rattle.nbt_front.specs.Files.{Adds, IsBarred, IsRefusedBy, Joins};
 ghost use Rattle.nbt_front.specs.Numbers.{names_most};
-ghost use Rattle.nbt_front.specs.Standing.{in_the_way, is_in_the_way};
+ghost use Rattle.std.specs.List.{flat_map};
+ghost use Rattle.nbt_front.specs.Standing.{in_the_way, is_in_the_way, is_left, leases_of, left_of};
 
 use crate::fault::{LineFault, Refused};
 use crate::fixed::Fixed;
 use crate::line::FixedLine;
 use indexmap::IndexMap;
-use nbt_lease::Lease;
+use nbt_lease::{Lease, Moment};
 use nbt_log::FixedCapitals;
 use nbt_name::Name;
 use std::alloc::{AllocError, Global};
@@ -57,6 +58,11 @@ impl FixedNames {
         self.names.is_empty()
     }
 
+    /// Each name with what is fixed of it, in the order of their first lines.
+    pub(crate) fn entries(&self) -> &IndexMap<Name, Fixed> {
+        &self.names
+    }
+
     /// What is fixed of a name, if it is among them.
     pub fn get(&self, name: &Name) -> Option<&Fixed>
         ensures found { IfSome result (λ fixed. fixed_of self.now name.now ≡ Some fixed.now) }
@@ -77,6 +83,36 @@ impl FixedNames {
         ensures { rows.new.items ≡ in_the_way self.now rows.old.items }
     {
         rows.retain(|row| self.is_barred_by(&row.0, &row.1));
+    }
+
+    /// Leaves of these leases, which machines may have by what was fixed before, those that aren't over at a moment, and whose names another
+    /// machine could get.
+    pub(crate) fn retain_left(&self, at: Moment, rows: &mut Vec<(Name, Lease)>)
+        ensures { rows.new.items ≡ left_of self.now at rows.old.items }
+    {
+        let now = at.get();
+        rows.retain(|row| now < row.1.end && self.leaves(&row.0, &row.1));
+    }
+
+    /// Whether another machine could get the name of such a lease.
+    fn leaves(&self, name: &Name, lease: &Lease) -> bool
+        ensures { result ≡ is_left (fixed_of self.now name.now) lease.now }
+    {
+        match self.get(name) {
+            Some(fixed) => fixed.is_barred_by(lease),
+            None => true,
+        }
+    }
+
+    /// Appends the leases that machines may have by what is fixed of the names, which end then.
+    pub(crate) fn list_leases(
+        &self,
+        end: u64,
+        rows: &mut Vec<(Name, Lease)>,
+    ) -> Result<(), AllocError>
+        ensures { OnOk result (rows.new.items ≡ rows.old.items ++ flat_map (leases_of end) self.now) }
+    {
+        list_leases_of(&self.names, end, rows)
     }
 
     /// Whether a lease of this name stands in its way.
@@ -131,4 +167,20 @@ fn capitals_in(alloc: Global, names: &IndexMap<Name, Fixed>) -> Result<FixedCapi
         rest = others;
     }
     Ok(capitals)
+}
+
+/// Appends the leases that machines may have by what is fixed of each name, which end then.
+fn list_leases_of(
+    names: &IndexMap<Name, Fixed>,
+    end: u64,
+    rows: &mut Vec<(Name, Lease)>,
+) -> Result<(), AllocError>
+    ensures { OnOk result (rows.new.items ≡ rows.old.items ++ flat_map (leases_of end) names.now.entries) }
+{
+    let mut rest = names.as_slice();
+    'names: while let Some(((name, fixed), others)) = rest.split_first() {
+        fixed.list_leases(name, end, rows)?;
+        rest = others;
+    }
+    Ok(())
 }

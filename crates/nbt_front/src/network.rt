@@ -36,6 +36,20 @@ impl Model for Network {
 }
 
 impl Network {
+    /// The address that it was given by.
+    pub fn ip(&self) -> u32
+        ensures { result ≡ self.now.ip }
+    {
+        self.ip
+    }
+
+    /// How many bits its addresses share.
+    pub fn bits(&self) -> u32
+        ensures { result ≡ self.now.bits }
+    {
+        self.bits
+    }
+
     /// Whether an address is in the network.
     pub fn contains(&self, ip: u32) -> bool
         ensures { IsTrue result ↔ IsIn ip self.now }

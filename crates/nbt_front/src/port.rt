@@ -1,12 +1,17 @@
 //! A port before which a front stands.
 
-ghost use Rattle.std.specs.Prelude.{◌≡◌, ◌<◌, ◌^◌, Ok};
+ghost use Rattle.std.specs.Prelude.{◌≡◌, ◌<◌, ◌^◌, Ok, OnOk, OnErr};
 ghost use Rattle.nbt_port.specs.PortCalls.{CountsFailure, receiving};
+ghost use Rattle.nbt_front.specs.Deciding.{renewed};
 ghost use Rattle.nbt_front.specs.FrontPort.{FrontDoes};
 
+use crate::deciding::Front;
 use crate::desk::Desk;
 use arrayvec::ArrayVec;
+use nbt_lease::{Lease, Moment};
+use nbt_name::Name;
 use nbt_port::{Cause, Clock, Device, OwnReplies, Port, Route};
+use std::alloc::AllocError;
 use std::io::Write;
 use std::marker::Model;
 
@@ -37,6 +42,26 @@ impl<'a, P, C> FrontPort<'a, P, C> {
             desk,
             reply: ArrayVec::new(),
         }
+    }
+
+    /// The front at work.
+    pub fn desk(&self) -> &Desk<'a, C>
+        ensures { result.now ≡ self.now.desk }
+    {
+        &self.desk
+    }
+
+    /// Another front takes the place of this one, as [`Desk::renew`] says.
+    pub fn renew(
+        &mut self,
+        front: Front,
+        live: Vec<(Name, Lease)>,
+        at: Moment,
+    ) -> Result<(), AllocError>
+        ensures ok { OnOk result (self.new ≡ record self.old { desk = renewed front live.items at self.old.desk }) }
+        ensures err { OnErr result (self.new ≡ self.old) }
+    {
+        self.desk.renew(front, live, at)
     }
 
     /// The port beneath.

@@ -11,3 +11,5 @@ mod Outgoing
 -- what a watcher is shown after a turn, and what came of a turn
 mod Telling
 mod Stayed
+-- what becomes of a front after a turn
+mod Renewed

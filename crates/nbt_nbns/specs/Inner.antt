@@ -2,3 +2,4 @@
 pub mod Starting
 pub mod Ending
 pub mod Resuming
+pub mod Renewing

@@ -8,6 +8,7 @@ pub mod Limits
 pub mod Logging
 pub mod Outboxes
 pub mod Places
+pub mod Renewing
 pub mod Reports
 pub mod Running
 pub mod Teller

@@ -29,7 +29,8 @@ use Rattle.nbt_nbns.specs.Keeping.{KeeperValue, new_keeper}
 use Rattle.nbt_nbns.specs.Logging.{LoggerValue, new_logger}
 use Rattle.nbt_nbns.specs.Places.{FileValue, file_of, Stays}
 use Rattle.nbt_nbns.specs.Folders.{FolderDoes}
-use Rattle.nbt_nbns.specs.Staying.{Staying, BreaksStaying, CutsStaying, WatchesLast, WatchesOn}
+use Rattle.nbt_nbns.specs.Renewing.{NotesNames, RenewsOn, RenewsPort}
+use Rattle.nbt_nbns.specs.Staying.{Staying, BreaksStaying, CutsStaying, WatchesLast}
 use Rattle.nbt_nbns.specs.declared.first_line.Manner.{Manner}
 use Rattle.nbt_nbns.specs.declared.content.Content.{Content}
 use Rattle.nbt_nbns.specs.declared.content.Content.TheVariants as content
@@ -85,13 +86,13 @@ module _ {C : Type 0} (tells : C → ℕ → C → Type 0) (strict : Bool) (unti
   -- It stays up for good, or until its time is over.
   abbrev pub KeepsUntil : Nbns C → Nbns C → Type 0
   KeepsUntil old new =
-      StaysUntil (WatchesOn (PortDoes strict) PortFailures FolderDoes tells MachineTells (Journals MachineTells Stays) until) (BreaksStaying (PortDoes strict) FolderDoes tells fault.Port)
+      StaysUntil (RenewsOn (PortDoes strict) PortFailures RenewsPort FolderDoes tells MachineTells (Journals MachineTells Stays) NotesNames until) (BreaksStaying (PortDoes strict) FolderDoes tells fault.Port)
       (WatchesLast (PortDoes strict) PortFailures FolderDoes tells MachineTells (Journals MachineTells Stays) until) forever old new
 
   -- It ends before that: for the device it gives up, and the folder's failure cuts it off.
   abbrev pub KeepsNot : Fault → Nbns C → Nbns C → Type 0
   KeepsNot why old new =
-      EndsEarly (WatchesOn (PortDoes strict) PortFailures FolderDoes tells MachineTells (Journals MachineTells Stays) until) (BreaksStaying (PortDoes strict) FolderDoes tells fault.Port)
+      EndsEarly (RenewsOn (PortDoes strict) PortFailures RenewsPort FolderDoes tells MachineTells (Journals MachineTells Stays) NotesNames until) (BreaksStaying (PortDoes strict) FolderDoes tells fault.Port)
       (CutsStaying (PortDoes strict) PortFailures FolderDoes tells MachineTells (Journals MachineTells Stays)) forever why old new
 
 -- A server begins so, and is at first what `starts` says: the first line says how it begins, and it goes on from there.
@@ -109,7 +110,7 @@ pub record Begins {C : Type 0} (starts : Manner → Nbns C → Type 0) (goes : N
 
 -- the port at first, of whose front these leases stand in the way of fixed names
 abbrev pub port_at_first : NbnsArguments → (standing : Rows) → Fronted PortsValue
-port_at_first a standing = record { port = record { bind = a.bind; failures = 0 }; desk = desk_of a.front standing }
+port_at_first a standing = record { port = record { bind = a.bind; failures = 0 }; desk = desk_of a.front standing [] }
 
 -- what a server without a state is at first that starts so, at this time of day: it limits its clients
 abbrev pub at_first : NbnsArguments → (start time : ℕ) → ServerValue → Option (List ℕ) → Nbns ℕ

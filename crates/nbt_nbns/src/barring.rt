@@ -25,10 +25,19 @@ impl BarredNotes {
 
     /// Says in `errors` how many requests a server with this state barred since the last line, and from whom the last one came, as `nbt: requests
     /// lost: 12, the last from 192.0.2.9; a client may make 20 changes a second`. It says so at a moment of the server's clock where there
-    /// is such a request, and a second has passed since the last line. What can't be written is passed over.
-    pub fn tell<S, E: Write>(&mut self, state: &Option<State<S>>, now: Moment, errors: &mut E) {
-        if let Some(state) = state {
-            self.tell_of(&state.share, now, errors);
+    /// is such a request, and a second has passed since the last line; but not of those that it barred since its disk is full. What can't be
+    /// written is passed over.
+    pub fn tell<S, E: Write>(
+        &mut self,
+        state: &Option<State<S>>,
+        is_full: bool,
+        now: Moment,
+        errors: &mut E,
+    ) {
+        match state {
+            Some(state) if is_full => self.told = state.share.barred(),
+            Some(state) => self.tell_of(&state.share, now, errors),
+            None => {}
         }
     }
 

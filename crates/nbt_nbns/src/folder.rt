@@ -4,7 +4,7 @@ ghost use Rattle.std.specs.Prelude.{◌≡◌, false, IfOk};
 
 use nbt_lease::Lease;
 use nbt_name::Name;
-use nbt_store::{Broken, Change, DiskStore, Header, Store, Syncs, SystemDisk};
+use nbt_store::{Broken, Change, DiskStore, Header, Room, Store, Syncs, SystemDisk};
 use std::alloc::Global;
 use std::marker::Model;
 use std::rt::Files;
@@ -69,6 +69,14 @@ impl<M: Files + time::Clock> Store for FolderStore<'_, M> {
 
     fn folder(&self) -> Option<&str> {
         Some(self.folder)
+    }
+
+    fn room(&self) -> Room {
+        self.store.room()
+    }
+
+    fn can_renew(&self) -> bool {
+        self.store.can_renew()
     }
 
     fn syncs(&self) -> Syncs {

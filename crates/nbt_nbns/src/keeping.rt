@@ -2,12 +2,13 @@
 
 ghost use Rattle.std.specs.Prelude.{◌≡◌, ℕ, List, Option, IfOk, IfErr, OnOk};
 ghost use Rattle.nbt_port.specs.Numbers.{forever};
-ghost use Rattle.nbt_port.specs.Staying.{StaysUntil, EndsEarly};
+ghost use Rattle.nbt_port.specs.Staying.{StaysUntil, EndsEarly, Takes};
 ghost use Rattle.nbt_nbns.specs.Inner.Ending.{EndsSo, ComesTo};
 ghost use Rattle.nbt_nbns.specs.Staying.{Breaks, BreaksStaying, CutsStaying, HasRoom, Turns, WatchesLast, WatchesOn};
 ghost use Rattle.nbt_serve.specs.declared.fault.KeepFault.TheVariants as fault;
 
 use crate::barring::BarredNotes;
+use crate::full::FullNotes;
 use crate::state::{State, health_of, is_idle, look_after_state, show, take_turn, tell_store};
 use crate::staying::{Shown, Watcher};
 use arrayvec::ArrayVec;
@@ -23,7 +24,7 @@ use std::time;
 
 /// The server goes through turns until the moment `until`, if there is one, and through 2^61 of them at most. It stays up when the port
 /// fails, as [`stay_up`] says. What changed at the port is said in `errors` after each turn. After one that went well the clock is read,
-/// and at most once a second a line in `errors` says how many requests were barred.
+/// and at most once a second a line in `errors` says how many requests were barred, and at most once a minute one that the disk is full.
 ///
 /// Without a state a turn is one of [`nbt_serve::serve_turn`], and the watcher is shown each. With one it is one of
 /// [`nbt_serve::keep_turn`], and the server ends only once no reply waits. Where none waits after a turn, the watcher is shown what the
@@ -63,11 +64,7 @@ pub fn keep_on<
         (record { served = record { port = port.new; clock = clock.new; server = server.new; state = state.new }; day = day.new; watcher = watcher.new; text = W.contents writer.new })) }
 {
     let mut rows = Vec::new(alloc);
-    let shown = Shown {
-        entry: None,
-        at: server.last(),
-        health: health_of(port, state),
-    };
+    let shown = shown_at_first(port, server, state);
     let mut turn = WatchedTurn {
         port,
         clock,
@@ -82,8 +79,22 @@ pub fn keep_on<
         reply: ArrayVec::new(),
         shown,
         barred: BarredNotes::new(),
+        full: FullNotes::new(),
     };
     stay_up(&mut turn, FOREVER, machine, errors)
+}
+
+/// What is shown before the first turn.
+pub(crate) fn shown_at_first<P: Port, S: Store>(
+    port: &P,
+    server: &Server,
+    state: &Option<State<S>>,
+) -> Shown {
+    Shown {
+        entry: None,
+        at: server.last(),
+        health: health_of(port, state),
+    }
 }
 
 /// One turn of a server that is watched.
@@ -102,6 +113,7 @@ struct WatchedTurn<'p, 'c, 's, 'k, 'd, 'v, 'w, 'b, P, S, C, D, V, W> {
     reply: ArrayVec<u8, 576>,
     shown: Shown,
     barred: BarredNotes,
+    full: FullNotes,
     ghost room: { HasRoom kept.now },
 }
 
@@ -130,47 +142,67 @@ impl<P: Port, S: Store, C: Clock, D: Clock, V: Watcher, W: Write> Turn
     ghost cuts = { λ _. CutsStaying P.does P.failures S.does C.tells D.tells V.sees };
 
     fn take<E: Write>(&mut self, errors: &mut E) -> Turned {
-        let sent = match turn_and_moment(
+        take_watched(
             self.port,
             self.clock,
             self.server,
             self.kept,
+            self.day,
+            self.watcher,
+            &self.until,
+            self.writer,
+            self.rows,
             &mut self.octets,
             &mut self.reply,
             &mut self.shown,
-        ) {
-            Ok(sent) => sent,
-            Err(KeepFault::Port) => {
-                self.port.tell_changes(errors);
-                return Turned::Failed(self.port.cause());
-            }
-            Err(KeepFault::Store) => {
-                tell_store(self.kept, errors);
-                return Turned::CutOff(Fault::Store);
-            }
-        };
-        self.port.tell_changes(errors);
-        let at = self.shown.at;
-        self.barred.tell(self.kept, at, errors);
-        show(
-            self.kept,
-            self.server,
-            sent,
-            &mut self.shown,
-            self.watcher,
-            self.writer,
-            errors,
-        );
-        after_turn(
-            self.kept,
-            self.day,
-            self.rows,
-            self.server,
-            &self.until,
-            at,
+            &mut self.full,
+            &mut self.barred,
             errors,
         )
     }
+}
+
+/// A turn of a server that is watched. What came of it is returned; where it went well, `shown` has the moment after it.
+pub(crate) fn take_watched<P: Port, S: Store, C: Clock, D: Clock, V: Watcher, W: Write, E: Write>(
+    port: &mut P,
+    clock: &mut C,
+    server: &mut Server,
+    state: &mut Option<State<S>>,
+    day: &mut D,
+    watcher: &mut V,
+    until: &Option<Moment>,
+    writer: &mut W,
+    rows: &mut Vec<(Name, Lease)>,
+    octets: &mut ArrayVec<u8, 2048>,
+    reply: &mut ArrayVec<u8, 576>,
+    shown: &mut Shown,
+    full: &mut FullNotes,
+    barred: &mut BarredNotes,
+    errors: &mut E,
+) -> Turned
+    requires room { HasRoom state.old }
+    ensures takes { Takes (WatchesOn P.does P.failures S.does C.tells D.tells V.sees until.now) (BreaksStaying P.does S.does C.tells fault.Port) (WatchesLast P.does P.failures S.does C.tells D.tells V.sees until.now) (CutsStaying P.does P.failures S.does C.tells D.tells V.sees) result
+        (record { served = record { port = port.old; clock = clock.old; server = server.old; state = state.old }; day = day.old; watcher = watcher.old; text = W.contents writer.old })
+        (record { served = record { port = port.new; clock = clock.new; server = server.new; state = state.new }; day = day.new; watcher = watcher.new; text = W.contents writer.new }) }
+    ensures room { HasRoom state.new }
+{
+    let sent = match turn_and_moment(port, clock, server, state, octets, reply, shown) {
+        Ok(sent) => sent,
+        Err(KeepFault::Port) => {
+            port.tell_changes(errors);
+            return Turned::Failed(port.cause());
+        }
+        Err(KeepFault::Store) => {
+            tell_store(state, errors);
+            return Turned::CutOff(Fault::Store);
+        }
+    };
+    port.tell_changes(errors);
+    let at = shown.at;
+    let is_full = full.tell(state, at, errors);
+    barred.tell(state, is_full, at, errors);
+    show(state, server, sent, shown, watcher, writer, errors);
+    after_turn(state, day, rows, server, until, at, errors)
 }
 
 /// Looks after the file, if there is a state, after a turn that went well. Returns what came of the turn.

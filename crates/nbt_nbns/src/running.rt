@@ -6,18 +6,19 @@ ghost use Rattle.nbt_port.specs.Staying.{StaysUntil, EndsEarly};
 ghost use Rattle.nbt_port.specs.Udp.{PortsValue};
 ghost use Rattle.nbt_front.specs.FrontPort.{Fronted};
 ghost use Rattle.nbt_nbns.specs.Running.{PortDoes, PortFailures, RunsNbns, NbnsFails};
-ghost use Rattle.nbt_nbns.specs.Staying.{BreaksStaying, CutsStaying, HasRoom, WatchesLast, WatchesOn};
+ghost use Rattle.nbt_nbns.specs.Renewing.{RenewsOn, RenewsPort};
+ghost use Rattle.nbt_nbns.specs.Staying.{BreaksStaying, CutsStaying, HasRoom, WatchesLast};
 ghost use Rattle.nbt_nbns.specs.Inner.Starting.{staying_of};
 ghost use Rattle.nbt_nbns.specs.declared.starting.Started.{Started as Begun};
 ghost use Rattle.nbt_serve.specs.declared.fault.KeepFault.TheVariants as fault;
 
 use crate::arguments::NbnsArguments;
-use crate::keeping::keep_on;
+use crate::renewing::{NotesFixed, Renewable, keep_renewed};
 use crate::starting::{Started, start};
 use crate::staying::Watcher;
-use nbt_front::{Desk, FrontPort};
+use nbt_front::{Desk, FrontFiles, FrontPort, FrontSource};
 use nbt_lease::Moment;
-use nbt_port::{Clock, Fault, MachineClock, Port, UdpPorts, tell_end_of, until_of};
+use nbt_port::{Clock, Fault, Port, UdpPorts, steady_clock, tell_end_of, until_of};
 use nbt_serve::SambaPort;
 use nbt_store::Store;
 use std::alloc::Global;
@@ -27,7 +28,7 @@ use std::rt::Files;
 use std::time;
 
 /// Runs a name server on UDP ports of this system, over the monotonic clock. It first prints where it serves, for how long it is silent
-/// and until when, and then stays up for 2^61 turns or until its time is over, also where the port fails, as [`keep_on`] does. It logs
+/// and until when, and then stays up for 2^61 turns or until its time is over, also where the port fails, as [`crate::keep_on`] does. It logs
 /// to `writer`, and keeps the list of its leases, its hosts and its statistics in files, where the arguments say so. Refused: `NoPort`
 /// where a port can't be bound, as [`UdpPorts::bind`] has it; `NoClock` where a clock can't be read at first; `Memory` where it is out of
 /// memory before the first line; `Output` where one of these files is none that may be replaced, and then nothing is printed, or where
@@ -47,14 +48,17 @@ pub fn run_nbns<M: Net + time::Clock + Files, W: Write, E: Write>(
     ensures memory { result ≡ Err Fault.Memory → W.contents writer.new ≡ W.contents writer.old }
 {
     let port = UdpPorts::bind(machine, alloc, &arguments.bind, errors)?;
+    let clock = steady_clock(machine, arguments.bind.first(), errors)?;
     let started = start(machine, alloc, arguments, &port, writer, errors)?;
     let until = until_of(started.server.last(), arguments.time);
-    let desk = Desk::new(alloc, &arguments.front, MachineClock::new(machine));
+    let desk = Desk::new(alloc, &arguments.front, clock);
+    let mut files = FrontFiles::new(machine, alloc, &arguments.front);
     keep_over(
         port,
         arguments.strict,
         desk,
         started,
+        &mut files,
         until,
         alloc,
         machine,
@@ -70,7 +74,8 @@ pub(crate) fn keep_over<
     S: Store + Drop,
     C: Clock + Drop,
     D: Clock + Drop,
-    V: Watcher + Drop,
+    V: Watcher + NotesFixed + Drop,
+    R: FrontSource,
     M: Net + time::Clock + Files,
     W: Write,
     E: Write,
@@ -79,6 +84,7 @@ pub(crate) fn keep_over<
     strict: bool,
     desk: Desk<'_, F>,
     started: Started<S, C, D, V>,
+    source: &mut R,
     until: Option<Moment>,
     alloc: Global,
     machine: &M,
@@ -86,36 +92,56 @@ pub(crate) fn keep_over<
     errors: &mut E,
 ) -> Result<(), Fault>
     requires room { HasRoom started.state }
-    ensures ok { OnOk result ((last_port : Fronted PortsValue) × (last : Begun S C D V) × StaysUntil (WatchesOn (PortDoes strict) PortFailures S.does C.tells D.tells V.sees until)
+    ensures ok { OnOk result ((last_port : Fronted PortsValue) × (last : Begun S C D V) × StaysUntil (RenewsOn (PortDoes strict) PortFailures RenewsPort S.does C.tells D.tells V.sees V.notes until)
         (BreaksStaying (PortDoes strict) S.does C.tells fault.Port) (WatchesLast (PortDoes strict) PortFailures S.does C.tells D.tells V.sees until) forever
         (staying_of (record { port = port.entry; desk = desk.entry }) started (W.contents writer.old)) (staying_of last_port last (W.contents writer.new))) }
-    ensures err { IfErr result (λ why. (last_port : Fronted PortsValue) × (last : Begun S C D V) × EndsEarly (WatchesOn (PortDoes strict) PortFailures S.does C.tells D.tells V.sees until)
+    ensures err { IfErr result (λ why. (last_port : Fronted PortsValue) × (last : Begun S C D V) × EndsEarly (RenewsOn (PortDoes strict) PortFailures RenewsPort S.does C.tells D.tells V.sees V.notes until)
         (BreaksStaying (PortDoes strict) S.does C.tells fault.Port) (CutsStaying (PortDoes strict) PortFailures S.does C.tells D.tells V.sees) forever why
         (staying_of (record { port = port.entry; desk = desk.entry }) started (W.contents writer.old)) (staying_of last_port last (W.contents writer.new))) }
 {
     let mut started = started;
     if strict {
         let port = FrontPort::new(port, desk);
-        keep_to_its_end(port, &mut started, until, alloc, machine, writer, errors)
+        keep_to_its_end(
+            port,
+            &mut started,
+            source,
+            until,
+            alloc,
+            machine,
+            writer,
+            errors,
+        )
     } else {
         let port = FrontPort::new(SambaPort::new(port), desk);
-        keep_to_its_end(port, &mut started, until, alloc, machine, writer, errors)
+        keep_to_its_end(
+            port,
+            &mut started,
+            source,
+            until,
+            alloc,
+            machine,
+            writer,
+            errors,
+        )
     }
 }
 
-/// Keeps a server up until it ends, as [`keep_on`] does. Where the port failed for good, a line in `errors` says why.
+/// Keeps a server up until it ends, as [`keep_renewed`] does. Where the port failed for good, a line in `errors` says why.
 fn keep_to_its_end<
-    P: Port + Drop,
+    P: Port + Renewable + Drop,
     S: Store,
     C: Clock,
     D: Clock,
-    V: Watcher,
+    V: Watcher + NotesFixed,
+    R: FrontSource,
     M: time::Clock,
     W: Write,
     E: Write,
 >(
     port: P,
     started: &mut Started<S, C, D, V>,
+    source: &mut R,
     until: Option<Moment>,
     alloc: Global,
     machine: &M,
@@ -123,19 +149,20 @@ fn keep_to_its_end<
     errors: &mut E,
 ) -> Result<(), Fault>
     requires room { HasRoom started.old.state }
-    ensures ok { OnOk result ((last : P) × StaysUntil (WatchesOn P.does P.failures S.does C.tells D.tells V.sees until) (BreaksStaying P.does S.does C.tells fault.Port)
+    ensures ok { OnOk result ((last : P) × StaysUntil (RenewsOn P.does P.failures P.renews S.does C.tells D.tells V.sees V.notes until) (BreaksStaying P.does S.does C.tells fault.Port)
         (WatchesLast P.does P.failures S.does C.tells D.tells V.sees until) forever (staying_of port started.old (W.contents writer.old)) (staying_of last started.new (W.contents writer.new))) }
-    ensures err { IfErr result (λ why. (last : P) × EndsEarly (WatchesOn P.does P.failures S.does C.tells D.tells V.sees until) (BreaksStaying P.does S.does C.tells fault.Port)
+    ensures err { IfErr result (λ why. (last : P) × EndsEarly (RenewsOn P.does P.failures P.renews S.does C.tells D.tells V.sees V.notes until) (BreaksStaying P.does S.does C.tells fault.Port)
         (CutsStaying P.does P.failures S.does C.tells D.tells V.sees) forever why (staying_of port started.old (W.contents writer.old)) (staying_of last started.new (W.contents writer.new))) }
 {
     let mut port = port;
-    let ended = keep_on(
+    let ended = keep_renewed(
         &mut port,
         &mut started.clock,
         &mut started.server,
         &mut started.state,
         &mut started.day,
         &mut started.journal,
+        source,
         until,
         alloc,
         machine,

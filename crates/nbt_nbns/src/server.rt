@@ -7,7 +7,7 @@ use crate::arguments::{NbnsArguments, ServerArguments, StateFolder};
 use crate::opening::Locked;
 use crate::resuming::{StartedServer, start};
 use crate::running::{keep_over, run_nbns};
-use nbt_front::Desk;
+use nbt_front::{Desk, FrontFiles};
 use nbt_port::{Ahead, Fault, UdpPorts, steady_clock, until_of};
 use std::alloc::Global;
 use std::fs::File;
@@ -119,11 +119,13 @@ fn run_locked<'a, M: Net + time::Clock + Files<File = File>, W: Write, E: Write>
     let by = kept.clock.by;
     let mut desk = Desk::new(alloc, &arguments.front, Ahead { clock, by });
     desk.keep(standing);
+    let mut files = FrontFiles::new(machine, alloc, &arguments.front);
     keep_over(
         port,
         arguments.strict,
         desk,
         kept,
+        &mut files,
         until,
         alloc,
         machine,

@@ -5,15 +5,12 @@ ghost use Rattle.nbt_nbns.specs.Opening.{IsStoreFault};
 
 use crate::opening::refused;
 use nbt_port::Fault;
-use nbt_store::{LOCK_MOST, OTHER_LOCK, is_lock_text};
+use nbt_store::{LOCK_MOST, OTHER_LOCK, is_lock_text, leases_at};
 use std::alloc::Global;
 use std::fs::{File, OpenFile};
 use std::io::{ErrorKind, Read, Write};
 use std::rt::Files;
 use std::{fs, io};
-
-/// The file of the leases has fewer octets (our profile).
-const FILE_MOST: u64 = 1 << 26;
 
 /// Whether another server has the lock of a folder, which has to be there. The lock is opened as a start opens it, tried as one that several may
 /// have, and given back at once; where there is no file `lock` nobody has it. Refused with `Memory` or `Store`: a line in `errors` says why, also
@@ -72,25 +69,14 @@ fn share(file: &File) -> io::Result<()> {
     Ok(())
 }
 
-/// The octets of the file of the leases in a folder; `None` where there is none. Refused where it is no regular file, or has 64 MiB or more; or
-/// if out of memory.
+/// The octets of the file of the leases in a folder, as [`leases_at`] has them.
 pub(crate) fn leases_in<M: Files<File = File>>(
     machine: &M,
     alloc: Global,
     folder: &str,
 ) -> io::Result<Option<Vec<u8>>> {
     let path = format!(in alloc; "{folder}/leases")?;
-    if !is_file(machine, path.as_str(), "leases is no regular file")? {
-        return Ok(None);
-    }
-    let mut octets = Vec::new(alloc);
-    File::open(machine, path.as_str())?
-        .take(FILE_MOST)
-        .read_to_end(&mut octets)?;
-    if octets.len() as u64 >= FILE_MOST {
-        return Err(io::Error::other("the file is too long"));
-    }
-    Ok(Some(octets))
+    leases_at(machine, alloc, path.as_str())
 }
 
 /// Whether a regular file stands at a path, to which no link leads; refused, with these words, where something else does.

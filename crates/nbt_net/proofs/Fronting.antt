@@ -10,7 +10,7 @@ use Rattle.nbt_packet.specs.Text.{text}
 use Rattle.nbt_port.specs.declared.port.Route.{Route}
 use Rattle.nbt_port.specs.PortCalls.{PortCall, nothing_came, came, receive_failed, sent, send_failed, Chain}
 use Rattle.nbt_port.proofs.Chains.{chain-append}
-use Rattle.nbt_front.specs.Deciding.{FrontValue, DeskValue, Decides, confirms as confirms_claim, refuses, refuses_overwrite, confirms_release, refuses_release, finds, turns_away}
+use Rattle.nbt_front.specs.Deciding.{FrontValue, DeskValue, Decides, confirms as confirms_claim, refuses, refuses_overwrite, confirms_release, refuses_release, finds, refuses_past, turns_away}
 use Rattle.nbt_front.specs.FrontPort.{Fronted, FrontDoes, hands_on, answers, can_not_answer}
 use Rattle.nbt_front.specs.declared.deciding.Decision.{Decision}
 use Rattle.nbt_serve.specs.Samba.{as_registration, IsTaken}
@@ -68,6 +68,7 @@ replies desk now ip _ _ _ (refuses_release id name kind addr fixed is free holds
     moves_none (λ moves. moves_not d.octets.items 0xB406 (ap (λ (xs : List ℕ). word_at xs 2) octets) (omega arith) (other_opcode 0xB406 6 refl (λ e. absurd cc) (λ e. absurd cc) (λ e. absurd cc)) moves)
 replies desk now ip _ _ _ (finds id name fixed is free) d octets to =
     moves_none (λ moves. moves_not d.octets.items 0x8580 (ap (λ (xs : List ℕ). word_at xs 2) octets) (omega arith) (other_opcode 0x8580 0 refl (λ e. absurd cc) (λ e. absurd cc) (λ e. absurd cc)) moves)
+replies desk now ip m _ _ (refuses_past _ r claims none allowed is_taken) d octets to = moves_none (λ moves. moves_not d.octets.items 0xAD86 (ap (λ (xs : List ℕ). word_at xs 2) octets) (omega arith) (negative 0xAD86 6 refl (λ e. absurd cc)) moves)
 replies desk now ip m _ _ (turns_away _ r claims none not_allowed) d octets to = moves_none (λ moves. moves_not d.octets.items 0xAD85 (ap (λ (xs : List ℕ). word_at xs 2) octets) (omega arith) (negative 0xAD85 5 refl (λ e. absurd cc)) moves)
 
 -- ---- what becomes of a call

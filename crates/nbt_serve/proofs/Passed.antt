@@ -16,6 +16,7 @@ use Rattle.nbt_store.specs.declared.store.Broken.{Broken}
 use Rattle.nbt_store.specs.Calls.{StoreCall, appending, append_failed}
 use Rattle.nbt_serve.specs.Serving.{moments_in}
 use Rattle.nbt_serve.specs.Devices.{DeviceCall, on_port, on_store, DeviceDoes}
+use Rattle.nbt_store.specs.declared.room.Room.TheVariants as there_is
 use Rattle.nbt_serve.specs.Sharing.{ShareValue}
 use Rattle.nbt_serve.specs.Waiting.{ReplyValue, WaitingValue, batch, counted, more_of, with_line, all_durable, dropped, lay_down, sends_of, leaving}
 use Rattle.nbt_serve.specs.Turning.{Took, behind_it, with_any, with_reply, sent_ahead, reply_in, receive_in, told_in, reached, asked_for, is_idle, is_any_reply, leaves, appends_of, taking, Passes, still_waits, all_leave, LeavingFails, sync_fails, send_fails, Fails, reaching_fails, leaving_fails, ahead_fails, append_fails, BreaksKeeping}
@@ -149,6 +150,7 @@ module _ {P S C : Type 0} (does : P → PortCall → P → Type 0) (keeps : S �
     fails = subst (Fails new.table.config.life old None fault.Store (on_port (came from octets) ∷ map on_store calls) (now ∷ [])) (sym is) (reaching_fails now from octets calls past fails);
     devices_did = taken does keeps p q s t (came from octets) (came from octets) calls refl did kept;
     clock_told = (d, told, refl);
+    room = there_is.Ample;
     shared = λ port. cc;
   }
   broke (in_appending turn change takes received kept told is) =
@@ -161,6 +163,7 @@ module _ {P S C : Type 0} (does : P → PortCall → P → Type 0) (keeps : S �
         fails = subst (Fails new.table.config.life old (Some (record { turn = turn; change = Some change; barred = None })) fault.Store (on_port (receive_in None turn) ∷ map on_store stored) (moments_in turn)) (sym is) (append_fails turn change);
         devices_did = taken does keeps p q s t (receive_in None turn) (came from octets) stored received did kept;
         clock_told = told;
+        room = there_is.Ample;
         shared = λ port. cc;
       }
 

@@ -2,8 +2,9 @@
 use Rattle.std.proofs.Common.{◌≡◌, ℕ, ◌+◌, ◌-◌, ◌<◌, ◌≤◌, Bool, true, false, List, ◌∙◌, refl, sym, ap, ⊎_elim, inl, inr, arith}
 use Rattle.std.specs.Prelude.{nat_eq, ◌&&◌, if◌then◌else◌}
 use Rattle.std.proofs.lemmas.Bool.{cases_Bool, eqb-true}
-use Rattle.nbt_serve.specs.Sharing.{ShareValue, AsksForChange, Shares, has_no_limit, asks_for_none, is_within, is_beyond, has_no_memory, count_in, had, one_barred, second_of}
-use Rattle.nbt_serve.specs.Inner.Sharing.{Admits, is_free, is_counted, is_barred, IsHandled}
+use Rattle.nbt_store.specs.declared.room.Room.{Room}
+use Rattle.nbt_serve.specs.Sharing.{ShareValue, AsksForChange, Shares, SharesBy, has_room, has_no_room, has_no_limit, asks_for_none, is_within, is_beyond, has_no_memory, count_in, had, one_barred, second_of}
+use Rattle.nbt_serve.specs.Inner.Sharing.{Admits, AdmitsBy, is_let_in, is_kept_out, is_free, is_counted, is_barred, IsHandled}
 use Rattle.nbt_serve.specs.declared.share.Admission.{Admission}
 use Rattle.nbt_serve.specs.declared.share.Admission.TheVariants as to
 
@@ -69,15 +70,26 @@ module _ (old mid new : ShareValue) (now client : ℕ) where
   beyond_one count is some most new_is octets asks = is_barred new (rw new_is (is_beyond some asks (let m : old.limit ≤ had old now client = omega (arith, is, most) in m)))
 
   -- What was counted made no change.
-  pub taken_back : (octets : List ℕ) → ((any : ℕ) → count_in new.made any ≡ (if nat_eq client any then count_in mid.made any - 1 else count_in mid.made any)) → new.second ≡ mid.second → new.limit ≡ mid.limit → new.barred ≡ mid.barred
+  taken_one_back : (octets : List ℕ) → ((any : ℕ) → count_in new.made any ≡ (if nat_eq client any then count_in mid.made any - 1 else count_in mid.made any)) → new.second ≡ mid.second → new.limit ≡ mid.limit → new.barred ≡ mid.barred
       → Admits now client octets old to.Counted mid → Shares now client octets old false false new
-  taken_back octets back second limit barred (is_counted counts asks room counted) =
+  taken_one_back octets back second limit barred (is_counted counts asks room counted) =
       is_within false new asks room (record { limit = limit ∙ counted.limit; second = second ∙ counted.second; made = back_so counted.made back; barred = barred ∙ counted.barred })
 
+  -- the same by the room that the store has
+  pub taken_back : (room : Room) (octets : List ℕ) → ((any : ℕ) → count_in new.made any ≡ (if nat_eq client any then count_in mid.made any - 1 else count_in mid.made any)) → new.second ≡ mid.second → new.limit ≡ mid.limit → new.barred ≡ mid.barred
+      → AdmitsBy room now client octets old to.Counted mid → SharesBy room now client octets old false false new
+  taken_back room octets back second limit barred (is_let_in _ counts let_in admits) = has_room false false new let_in (taken_one_back octets back second limit barred admits)
+
 -- a change was made, or none was counted
-pub settled : (now client : ℕ) (octets : List ℕ) (old new : ShareValue) (admission : Admission) (changed : Bool) → (admission ≡ to.Counted → changed ≡ true) → Admits now client octets old admission new → IsHandled admission
+settled_one : (now client : ℕ) (octets : List ℕ) (old new : ShareValue) (admission : Admission) (changed : Bool) → (admission ≡ to.Counted → changed ≡ true) → Admits now client octets old admission new → IsHandled admission
     → Shares now client octets old false changed new
-settled now client octets old _ _ changed only (is_free (inl none)) handled = has_no_limit changed none
-settled now client octets old _ _ changed only (is_free (inr not)) handled = asks_for_none changed not
-settled now client octets old _ _ changed only (is_counted new asks room counted) handled = rw (only refl) (is_within true new asks room counted)
-settled now client octets old _ _ changed only (is_barred new shares) handled = absurd handled
+settled_one now client octets old _ _ changed only (is_free (inl none)) handled = has_no_limit changed none
+settled_one now client octets old _ _ changed only (is_free (inr not)) handled = asks_for_none changed not
+settled_one now client octets old _ _ changed only (is_counted new asks room counted) handled = rw (only refl) (is_within true new asks room counted)
+settled_one now client octets old _ _ changed only (is_barred new shares) handled = absurd handled
+
+-- the same by the room that the store has
+pub settled : (room : Room) (now client : ℕ) (octets : List ℕ) (old new : ShareValue) (admission : Admission) (changed : Bool) → (admission ≡ to.Counted → changed ≡ true) → AdmitsBy room now client octets old admission new → IsHandled admission
+    → SharesBy room now client octets old false changed new
+settled room now client octets old new admission changed only (is_let_in _ counts let_in admits) handled = has_room false changed new let_in (settled_one now client octets old new admission changed only admits handled)
+settled room now client octets old _ _ changed only (is_kept_out out) handled = absurd handled

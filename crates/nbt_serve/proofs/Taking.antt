@@ -10,6 +10,8 @@ use Rattle.nbt_log.specs.Kinds.{entry_of}
 use Rattle.nbt_port.specs.declared.port.Route.{Route}
 use Rattle.nbt_port.specs.PortCalls.{Chain}
 use Rattle.nbt_port.proofs.Chains.{chain-append}
+use Rattle.nbt_store.specs.declared.room.Room.{Room}
+use Rattle.nbt_store.specs.declared.room.Room.TheVariants as there_is
 use Rattle.nbt_store.specs.Calls.{StoreCall, append_failed}
 use Rattle.nbt_store.specs.declared.change.Change.TheVariants.{Reached}
 use Rattle.nbt_server.specs.Serving.{ServerValue}
@@ -21,10 +23,10 @@ use Rattle.nbt_server.specs.declared.outcome.Outcome.{Outcome}
 use Rattle.nbt_store.specs.declared.change.Change.{Change}
 use Rattle.nbt_serve.specs.Serving.{is_empty, is_taken, is_lost, Turns, passes, takes, goes_back, has_no_memory, IsLogged}
 use Rattle.nbt_serve.specs.Changing.{changed_name, changes_leases, name_of, IsChange}
-use Rattle.nbt_serve.specs.Sharing.{ShareValue, Shares}
+use Rattle.nbt_serve.specs.Sharing.{ShareValue, Shares, SharesBy, has_room, has_no_room}
 use Rattle.nbt_serve.specs.Waiting.{WaitingValue, with_line, dropped, lay_down, laid_down}
 use Rattle.nbt_serve.specs.Inner.Passing.{goes_to, name_in_any, query_in, reply_to, is_any}
-use Rattle.nbt_serve.specs.Inner.Sharing.{Admits, is_free, is_counted, is_barred, IsHandled}
+use Rattle.nbt_serve.specs.Inner.Sharing.{Admits, AdmitsBy, is_let_in, is_kept_out, is_free, is_counted, is_barred, IsHandled}
 use Rattle.nbt_serve.specs.declared.share.Admission.{Admission}
 use Rattle.nbt_serve.specs.declared.share.Admission.TheVariants as to
 use Rattle.nbt_serve.specs.Inner.Taking.{HasTaken, FailsToTake, in_appending}
@@ -69,20 +71,21 @@ takes_none old new now from octets fault back unchanged memory =
     (record { server = lost; keeps = still_kept fault old new now from.peer.ip octets (λ e. unchanged (ap Err e)) (λ e. memory (ap Err e)); time = tt; named = tt; stands = λ kept k. tt; nothing_came = tt }, logged lost)
 
 -- the calls of the store for a time, and then for a change, and the times of both
-module _ {S C : Type 0} (keeps : S → StoreCall → S → Type 0) (tells : C → ℕ → C → Type 0) (s t u : S) (c d : C) (old new : ServerValue) (share counts : ShareValue) (now : ℕ) (from : Route) (octets : List ℕ) (waiting mid : WaitingValue) (synced : Bool)
+module _ (room : Room) {S C : Type 0} (keeps : S → StoreCall → S → Type 0) (tells : C → ℕ → C → Type 0) (s t u : S) (c d : C) (old new : ServerValue) (share counts : ShareValue) (now : ℕ) (from : Route) (octets : List ℕ) (waiting mid : WaitingValue) (synced : Bool)
     (told : tells c now d) (synced_is : synced ≡ nat_lt (waiting.durable + reach) now) (reached_did : Chain keeps s (flat_map lay_down (reached waiting.durable (now ∷ []))) t) (mid_is : mid ≡ with_lines (reached waiting.durable (now ∷ [])) waiting) where
   any_is : synced ≡ is_any (reached waiting.durable (now ∷ []))
   any_is =
       ⊎_elim (λ (past : nat_lt (waiting.durable + reach) now ≡ true). synced_is ∙ rw past refl) (λ (near : nat_lt (waiting.durable + reach) now ≡ false). synced_is ∙ rw near refl) (cases_Bool (nat_lt (waiting.durable + reach) now))
 
   pub taken_so : (outcome : Outcome) (change : Option Change) (out : List ℕ) (after : WaitingValue) (entry : Option Entry) → ServerHandles old now from.peer.ip octets outcome out new → IsChange outcome new change → entry ≡ Some (entry_of from.peer octets outcome)
-      → Shares now from.peer.ip octets share false (changes_leases outcome) counts → Chain keeps t (appends_of change) u → after ≡ with_any change mid → HasTaken keeps tells s c old share waiting (Some from) octets entry out synced u d new counts after
+      → SharesBy room now from.peer.ip octets share false (changes_leases outcome) counts → Chain keeps t (appends_of change) u → after ≡ with_any change mid → HasTaken keeps tells s c old share waiting (Some from) octets entry out synced u d new counts after
   taken_so outcome change out after entry h changed is shared kept waits = record {
     took = took_one old new now from octets outcome change out h changed;
     takes = takes_one old new now from octets outcome change out h changed;
     logged = (outcome, h.done, is);
     changed = changed.some old now from.peer.ip octets out h ∙ ap changes_in (sym is);
-    shared = subst (λ (b : Bool). Shares now from.peer.ip octets share false b counts) (sym (changed.some old now from.peer.ip octets out h)) shared;
+    room = room;
+    shared = subst (λ (b : Bool). SharesBy room now from.peer.ip octets share false b counts) (sym (changed.some old now from.peer.ip octets out h)) shared;
     received = refl;
     idle = refl;
     asked = told_query old now from.peer.ip octets h.reply (leases_at now new.table.rows) outcome h.takes.serves h.done ∙ ap query_in (sym is);
@@ -102,7 +105,7 @@ module _ {S C : Type 0} (keeps : S → StoreCall → S → Type 0) (tells : C �
       (chain-append keeps s t u (flat_map lay_down (reached waiting.durable (now ∷ []))) (append_failed change ∷ []) reached_did (u, did, refl)) (d, told, refl) (is ∙ ap (λ (w : WaitingValue). dropped (with_line change w)) mid_is)
 
   pub lost_one : (fault : ServerFault) (out : List ℕ) → IsErrOf {T = Outcome} (Err fault) faults.ClockBack ↔ (now < old.last) → (IsErrOf {T = Outcome} (Err fault) faults.ClockBack → new ≡ old)
-      → (IsErrOf {T = Outcome} (Err fault) faults.OutOfMemory → ServerForgets old now from.peer.ip octets new) → Shares now from.peer.ip octets share false false counts
+      → (IsErrOf {T = Outcome} (Err fault) faults.OutOfMemory → ServerForgets old now from.peer.ip octets new) → SharesBy room now from.peer.ip octets share false false counts
       → HasTaken keeps tells s c old share waiting (Some from) octets None out synced t d new counts mid
   lost_one fault out back unchanged memory shared =
       let l = takes_none old new now from octets fault back unchanged memory in
@@ -111,6 +114,7 @@ module _ {S C : Type 0} (keeps : S → StoreCall → S → Type 0) (tells : C �
         takes = l.0;
         logged = l.1;
         changed = refl;
+        room = room;
         shared = shared;
         received = refl;
         idle = refl;
@@ -129,6 +133,7 @@ idle_one keeps tells s c old share waiting octets out = record {
   takes = record { server = passes; keeps = λ kept k. k; time = tt; named = tt; stands = λ kept k. tt; nothing_came = tt };
   logged = refl;
   changed = refl;
+  room = there_is.Ample;
   shared = refl;
   received = refl;
   idle = refl;
@@ -141,13 +146,14 @@ idle_one keeps tells s c old share waiting octets out = record {
 }
 
 -- a datagram is barred
-pub barred_one : {S C : Type 0} (keeps : S → StoreCall → S → Type 0) (tells : C → ℕ → C → Type 0) (s : S) (c d : C) (old : ServerValue) (share counts : ShareValue) (waiting : WaitingValue) (now : ℕ) (from : Route) (octets out : List ℕ) → tells c now d
-    → Shares now from.peer.ip octets share true false counts → HasTaken keeps tells s c old share waiting (Some from) octets None out false s d old counts waiting
-barred_one keeps tells s c d old share counts waiting now from octets out told shared = record {
+pub barred_one : (room : Room) {S C : Type 0} (keeps : S → StoreCall → S → Type 0) (tells : C → ℕ → C → Type 0) (s : S) (c d : C) (old : ServerValue) (share counts : ShareValue) (waiting : WaitingValue) (now : ℕ) (from : Route) (octets out : List ℕ) → tells c now d
+    → SharesBy room now from.peer.ip octets share true false counts → HasTaken keeps tells s c old share waiting (Some from) octets None out false s d old counts waiting
+barred_one room keeps tells s c d old share counts waiting now from octets out told shared = record {
   took = record { turn = is_empty; change = None; barred = Some (record { now = now; from = from; octets = octets }) };
   takes = record { server = passes; keeps = λ kept k. k; time = tt; named = tt; stands = λ kept k. tt; nothing_came = (refl, refl) };
   logged = refl;
   changed = refl;
+  room = room;
   shared = shared;
   received = refl;
   idle = refl;
@@ -172,10 +178,14 @@ module _ {S : Type 0} (keeps : S → StoreCall → S → Type 0) (s t : S) (old 
 -- ---- what a datagram makes of the counts
 
 -- it was barred
-pub barred_so : (now client : ℕ) (octets : List ℕ) (old new : ShareValue) (admission : Admission) → admission ≡ to.Barred → Admits now client octets old admission new → Shares now client octets old true false new
-barred_so now client octets old new _ is (is_free free) = absurd cc
-barred_so now client octets old new _ is (is_counted counts asks room counted) = absurd cc
-barred_so now client octets old new _ is (is_barred counts shares) = shares
+barred_one_so : (now client : ℕ) (octets : List ℕ) (old new : ShareValue) (admission : Admission) → admission ≡ to.Barred → Admits now client octets old admission new → Shares now client octets old true false new
+barred_one_so now client octets old new _ is (is_free free) = absurd cc
+barred_one_so now client octets old new _ is (is_counted counts asks room counted) = absurd cc
+barred_one_so now client octets old new _ is (is_barred counts shares) = shares
+
+pub barred_so : (room : Room) (now client : ℕ) (octets : List ℕ) (old new : ShareValue) (admission : Admission) → admission ≡ to.Barred → AdmitsBy room now client octets old admission new → SharesBy room now client octets old true false new
+barred_so room now client octets old new admission is (is_let_in _ counts let_in admits) = has_room true false new let_in (barred_one_so now client octets old new admission is admits)
+barred_so room now client octets old _ _ is (is_kept_out out) = has_no_room out
 
 -- it wasn't
 pub handled_so : (admission : Admission) → ¬ (admission ≡ to.Barred) → IsHandled admission

@@ -30,13 +30,14 @@ abbrev pub is_line_due : Header → (durable moment time : ℕ) → Bool
 is_line_due header durable moment time = nat_le (durable + quarter header.longest) moment || not (bears_out header.last header.day moment time)
 
 -- The file is looked after at a moment, where no reply waits and the moment isn't before the durable time: the time of day is read. Where
--- the file is long, the live leases are written anew, but for want of memory; where a line of both clocks is due, it is appended, and
--- becomes durable at once. Then the header has that moment and that time of day.
+-- the file is long, the live leases are written anew, but for want of memory or of room; where a line of both clocks is due, it is appended, and
+-- becomes durable at once, but where the store has no room. Then the header has that moment and that time of day.
 pub data LooksAfter {S D : Type 0} (keeps : S → StoreCall → S → Type 0) (days : D → ℕ → D → Type 0) (server : ServerValue) (at : ℕ) (old : Desk S D) : Desk S D → Type 0 where
   replies_wait : ¬ IsClear old.waiting → LooksAfter keeps days server at old old
   goes_back : at < old.waiting.durable → LooksAfter keeps days server at old old
   stays : (time : ℕ) (day : D) → IsClear old.waiting → old.waiting.durable ≤ at → days old.day time day → is_line_due old.header old.waiting.durable at time ≡ false
       → LooksAfter keeps days server at old (record old { day = day })
+  has_no_room : (time : ℕ) (day : D) → IsClear old.waiting → old.waiting.durable ≤ at → days old.day time day → LooksAfter keeps days server at old (record old { day = day })
   looked : (time : ℕ) (day : D) (store : S) → IsClear old.waiting → old.waiting.durable ≤ at → days old.day time day → is_line_due old.header old.waiting.durable at time ≡ true
       → Chain keeps old.store (lay_down (Looked time at)) store → LooksAfter keeps days server at old (record { store = store; day = day; header = header_at old.header at time; waiting = none_waits at })
   written : (time : ℕ) (day : D) (store : S) → IsClear old.waiting → old.waiting.durable ≤ at → days old.day time day → keeps old.store (renewed (header_at old.header at time) (live_rows server)) store

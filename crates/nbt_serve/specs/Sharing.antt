@@ -1,8 +1,10 @@
--- How many changes of each client a server makes in a second (our profile).
-use Rattle.std.specs.Prelude.{◌≡◌, ◌≢◌, ℕ, ◌+◌, ◌-◌, ◌/◌, ◌^◌, ◌<◌, ◌≤◌, nat_eq, min, Bool, true, false, ◌&&◌, if◌then◌else◌, List, [], length, unwrap_or}
+-- How many changes of each client a server makes in a second, and what it bars where its store has little room (our profile).
+use Rattle.std.specs.Prelude.{◌≡◌, ◌≢◌, ⊤, ℕ, ◌+◌, ◌-◌, ◌/◌, ◌^◌, ◌<◌, ◌≤◌, nat_eq, min, Bool, true, false, ◌&&◌, if◌then◌else◌, List, [], length, unwrap_or}
 use Rattle.std.specs.Map.{lookup}
 use Rattle.nbt_name.specs.Words.{word_at}
 use Rattle.nbt_packet.specs.Message.{IsRequest, opcode_of}
+use Rattle.nbt_store.specs.declared.room.Room.{Room}
+use Rattle.nbt_store.specs.declared.room.Room.TheVariants as there_is
 
 -- How many changes a client may have in a second, or 0 for any number; a second of the server's clock; how many each client had in it; and
 -- how many requests were barred so far. A client is a 32-bit address.
@@ -53,3 +55,14 @@ pub data Shares (now client : ℕ) (octets : List ℕ) (old : ShareValue) : (bar
   is_within : (changed : Bool) (new : ShareValue) → AsksForChange octets → had old now client < old.limit → Counted now client changed old new → Shares now client octets old false changed new
   is_beyond : 0 < old.limit → AsksForChange octets → old.limit ≤ had old now client → Shares now client octets old true false (one_barred old)
   has_no_memory : (mid : ShareValue) → 0 < old.limit → AsksForChange octets → had old now client ≡ 0 → Counted now client false old mid → Shares now client octets old true false (one_barred mid)
+
+-- What a store with so much room lets in: where there is room for times alone what asks for no change, and where there is none nothing.
+abbrev pub IsLetIn : Room → (octets : List ℕ) → Type 0
+IsLetIn there_is.Ample octets = ⊤
+IsLetIn there_is.Scarce octets = ¬ AsksForChange octets
+IsLetIn there_is.Spent octets = ⊥
+
+-- The same by the room that the store has: what isn't let in is barred, and no share is touched.
+pub data SharesBy (room : Room) (now client : ℕ) (octets : List ℕ) (old : ShareValue) : (barred changed : Bool) → ShareValue → Type 0 where
+  has_room : (barred changed : Bool) (new : ShareValue) → IsLetIn room octets → Shares now client octets old barred changed new → SharesBy room now client octets old barred changed new
+  has_no_room : ¬ IsLetIn room octets → SharesBy room now client octets old true false (one_barred old)

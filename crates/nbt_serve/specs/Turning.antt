@@ -13,12 +13,13 @@ use Rattle.nbt_port.specs.PortCalls.{PortCall, nothing_came, came, receive_faile
 use Rattle.nbt_server.specs.Serving.{ServerValue}
 use Rattle.nbt_store.specs.declared.change.Change.{Change}
 use Rattle.nbt_store.specs.declared.change.Change.TheVariants.{Reached}
+use Rattle.nbt_store.specs.declared.room.Room.{Room}
 use Rattle.nbt_store.specs.Calls.{StoreCall, appended, append_failed, sync_failed}
 use Rattle.nbt_store.specs.Changes.{at_of, Stands}
 use Rattle.nbt_serve.specs.Serving.{Turn, is_empty, is_taken, is_lost, moments_in, Turns, IsLogged}
 use Rattle.nbt_serve.specs.Changing.{IsKept, after_any, changed_name, changes_leases}
 use Rattle.nbt_serve.specs.Devices.{DeviceCall, on_port, on_store, Devices, DeviceDoes}
-use Rattle.nbt_serve.specs.Sharing.{ShareValue, Shares}
+use Rattle.nbt_serve.specs.Sharing.{ShareValue, SharesBy}
 use Rattle.nbt_serve.specs.Waiting.{ReplyValue, WaitingValue, batch, more_of, counted, IsAbout, IsClear, with_line, all_durable, dropped, lay_down, laid_down, LineFails, syncs_of, sends_of, timely, leaving}
 use Rattle.nbt_serve.specs.declared.waiting.Sent.{Sent}
 use Rattle.nbt_serve.specs.declared.fault.KeepFault.{KeepFault}
@@ -209,21 +210,21 @@ TakesAny old (Some took) new = Takes old took new
 
 -- ---- the shares of the clients
 
--- What a turn makes of the counts, by whether the datagram that was handled changed a lease.
-abbrev pub TakesShare : ShareValue → Option Barred → Turn → (changed : Bool) → ShareValue → Type 0
-TakesShare old (Some barred) turn changed new = Shares barred.now barred.from.peer.ip barred.octets old true false new
-TakesShare old None is_empty changed new = new ≡ old
-TakesShare old None (is_taken now from octets reply) changed new = Shares now from.peer.ip octets old false changed new
-TakesShare old None (is_lost now from octets) changed new = Shares now from.peer.ip octets old false changed new
+-- What a turn makes of the counts, by the room that the store has, and by whether the datagram that was handled changed a lease.
+abbrev pub TakesShare : Room → ShareValue → Option Barred → Turn → (changed : Bool) → ShareValue → Type 0
+TakesShare room old (Some barred) turn changed new = SharesBy room barred.now barred.from.peer.ip barred.octets old true false new
+TakesShare room old None is_empty changed new = new ≡ old
+TakesShare room old None (is_taken now from octets reply) changed new = SharesBy room now from.peer.ip octets old false changed new
+TakesShare room old None (is_lost now from octets) changed new = SharesBy room now from.peer.ip octets old false changed new
 
 -- the same of what was taken
-abbrev pub TakesShareOf : ShareValue → Took → ShareValue → Type 0
-TakesShareOf old took new = TakesShare old took.barred took.turn (is_some took.change) new
+abbrev pub TakesShareOf : Room → ShareValue → Took → ShareValue → Type 0
+TakesShareOf room old took new = TakesShare room old took.barred took.turn (is_some took.change) new
 
 -- nothing was counted where the port failed as it received
-abbrev pub TakesAnyShare : ShareValue → Option Took → ShareValue → Type 0
-TakesAnyShare old None new = new ≡ old
-TakesAnyShare old (Some took) new = TakesShareOf old took new
+abbrev pub TakesAnyShare : Room → ShareValue → Option Took → ShareValue → Type 0
+TakesAnyShare room old None new = new ≡ old
+TakesAnyShare room old (Some took) new = TakesShareOf room old took new
 
 -- ---- with the devices
 
@@ -239,7 +240,7 @@ pub record Keeping (P S C : Type 0) : Type 0 where
 abbrev pub devices_of : {P S C : Type 0} → Keeping P S C → Devices P S
 devices_of here = record { port = here.port; store = here.store }
 
--- A turn: what the log has of it, whether its reply went ahead, and at which moment what waited left, if it did.
+-- A turn: what the log has of it, what room the store had, whether its reply went ahead, and at which moment what waited left, if it did.
 pub record KeepsTurn {P S C : Type 0} (does : P → PortCall → P → Type 0) (keeps : S → StoreCall → S → Type 0) (tells : C → ℕ → C → Type 0)
     (old : Keeping P S C) (entry : Option Entry) (sent : Sent) (new : Keeping P S C) : Type 0 where
   pub took : Took
@@ -248,7 +249,8 @@ pub record KeepsTurn {P S C : Type 0} (does : P → PortCall → P → Type 0) (
   pub takes : Takes old.server took new.server
   pub logged : IsLogged takes.server entry
   pub changed : is_some took.change ≡ changes_in entry
-  pub shared : TakesShareOf old.share took new.share
+  pub room : Room
+  pub shared : TakesShareOf room old.share took new.share
   pub passes : Passes new.server.table.config.life old.waiting took sent.ahead calls readings new.waiting
   pub devices_did : Chain (DeviceDoes does keeps) (devices_of old) calls (devices_of new)
   pub clock_told : Chain tells old.clock (told_in took.barred took.turn ++ readings) new.clock
@@ -264,4 +266,5 @@ pub record BreaksKeeping {P S C : Type 0} (does : P → PortCall → P → Type 
   pub fails : Fails new.server.table.config.life old.waiting took why calls readings new.waiting
   pub devices_did : Chain (DeviceDoes does keeps) (devices_of old) calls (devices_of new)
   pub clock_told : Chain tells old.clock readings new.clock
-  pub shared : why ≡ fault.Port → TakesAnyShare old.share took new.share
+  pub room : Room
+  pub shared : why ≡ fault.Port → TakesAnyShare room old.share took new.share

@@ -18,9 +18,9 @@ use std::alloc::AllocError;
 
 /// Looks after the file at a moment, where no reply waits, and the moment isn't before the last durable time. It reads the time of
 /// day. Where the file has several times as many lines as leases with which it was written, it writes the server's live leases anew;
-/// where memory is refused for that, the next look tries again. Else a line says what both clocks tell, and becomes durable, where a
+/// where memory is refused for that, or there is no room, the next look tries again. Else a line says what both clocks tell, and becomes durable, where a
 /// quarter of the longest lease passed since the last durable time, or the time of day doesn't bear the moment out
-/// since the pair of the header, as [`bears_out`] says. Of what is written last the header has the moment and the time of day.
+/// since the pair of the header, as [`bears_out`] says. Where the store has room for no line, neither is done. Of what is written last the header has the moment and the time of day.
 /// Refused with `Broken` if the store fails. `rows` is a buffer.
 pub fn look_after<S: Store, D: Clock>(
     store: &mut S,
@@ -42,6 +42,9 @@ pub fn look_after<S: Store, D: Clock>(
         return Ok(());
     }
     let time = day.now();
+    if store.room().is_spent() {
+        return Ok(());
+    }
     if is_wanted(store, rows, server) {
         return renew(store, header, rows.as_slice(), waiting, at, time);
     }
@@ -55,7 +58,7 @@ pub fn look_after<S: Store, D: Clock>(
 fn is_wanted<S: Store>(store: &S, rows: &mut Vec<(Name, Lease)>, server: &Server) -> bool
     ensures { IsTrue result → rows.new.items ≡ live_rows server.now }
 {
-    if !store.is_long() {
+    if !store.is_long() || !store.can_renew() {
         return false;
     }
     list_live(server, rows).is_ok()

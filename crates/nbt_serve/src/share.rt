@@ -1,14 +1,16 @@
-//! How many changes of each client a server makes in a second.
+//! How many changes of each client a server makes in a second, and what it bars where its store has little room.
 
 ghost use Rattle.std.specs.Prelude.{◌≡◌, ◌≢◌, ◌<◌, ◌↔◌, ◌-◌, ℕ, List, false, nat_eq, if◌then◌else◌, IsTrue, OnOk, OnErr};
 ghost use Rattle.nbt_packet.specs.Message.{IsRequest, opcode_of};
-ghost use Rattle.nbt_serve.specs.Sharing.{ShareValue, AsksForChange, Shares, count_in, had, one_barred, second_of, share_of};
-ghost use Rattle.nbt_serve.specs.Inner.Sharing.{Admits, IsHandled};
+ghost use Rattle.nbt_serve.specs.Sharing.{ShareValue, AsksForChange, IsLetIn, SharesBy, count_in, had, one_barred, second_of, share_of};
+ghost use Rattle.nbt_serve.specs.Inner.Sharing.{Admits, AdmitsBy, IsHandled};
 ghost use Rattle.nbt_serve.specs.declared.share.Admission.TheVariants as to;
+ghost use Rattle.nbt_store.specs.declared.room.Room.{Room as RoomValue};
 
 use indexmap::IndexMap;
 use nbt_lease::Moment;
 use nbt_name::read_word;
+use nbt_store::Room;
 use std::alloc::{AllocError, Global};
 use std::marker::Model;
 
@@ -28,7 +30,7 @@ pub(crate) enum Admission {
     Free,
     /// It is handled, and counted as if it made a change.
     Counted,
-    /// It is lost: its client has had its share, or memory was refused.
+    /// It is lost: its client has had its share, memory was refused, or the store has no room for what may come of it.
     Barred,
 }
 
@@ -100,9 +102,27 @@ impl Share {
         self.last_barred
     }
 
+    /// What becomes of a datagram that came now from a client, where the store has so much room. It is barred where it asks for a change and
+    /// there is room for none, and where there is room for no line; else as [`Share::admit`] has it.
+    pub(crate) fn admit_by(
+        &mut self,
+        room: Room,
+        now: Moment,
+        client: u32,
+        octets: &[u8],
+    ) -> Admission
+        ensures { AdmitsBy room now client octets.now self.old result self.new }
+    {
+        if is_let_in(room, octets) {
+            return self.admit(now, client, octets);
+        }
+        self.bar(client);
+        Admission::Barred
+    }
+
     /// What becomes of a datagram that came now from a client. It is barred where it asks for a change and its client has had its share in
     /// this second, or memory was refused to count it. Only a client's first change in a second takes memory.
-    pub(crate) fn admit(&mut self, now: Moment, client: u32, octets: &[u8]) -> Admission
+    fn admit(&mut self, now: Moment, client: u32, octets: &[u8]) -> Admission
         ensures { Admits now client octets.now self.old result self.new }
     {
         if self.limit == 0 {
@@ -136,7 +156,7 @@ impl Share {
 
     /// The datagram of a client that was admitted so was handled: whether it made a change.
     pub(crate) fn settle(&mut self, admission: Admission, client: u32, changed: bool)
-        ensures { (now : ℕ) (octets : List ℕ) (first : ShareValue) → Admits now client octets first admission self.old → IsHandled admission → Shares now client octets first false changed self.new }
+        ensures { (room : RoomValue) (now : ℕ) (octets : List ℕ) (first : ShareValue) → AdmitsBy room now client octets first admission self.old → IsHandled admission → SharesBy room now client octets first false changed self.new }
     {
         if changed {
             return;
@@ -213,6 +233,17 @@ fn second_of(now: Moment) -> u64
     ensures { result ≡ second_of now }
 {
     now.get() / SHARE
+}
+
+/// Whether a store with so much room lets a datagram in.
+fn is_let_in(room: Room, octets: &[u8]) -> bool
+    ensures { IsTrue result ↔ IsLetIn room octets.now }
+{
+    match room {
+        Room::Ample => true,
+        Room::Scarce => !asks_for_change(octets),
+        Room::Spent => false,
+    }
 }
 
 /// Whether a datagram is a request and no query, by its flags alone.

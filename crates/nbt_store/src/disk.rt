@@ -2,6 +2,7 @@
 
 ghost use Rattle.nbt_store.specs.DiskCalls.{DiskCall, creating, adding, flushing, installing};
 
+use crate::room::Room;
 use crate::syncs::Syncs;
 use std::io;
 
@@ -30,6 +31,16 @@ pub trait Disk {
     /// Puts the new file in the place of the file, and makes that durable. A crash leaves the old file or the new one.
     fn install(&mut self) -> io::Result<()>
         ensures { does self.old (installing result) self.new };
+
+    /// How much room there is for what is still to be appended. A disk that is full may look here whether it has room again.
+    fn room(&self) -> Room {
+        Room::Ample
+    }
+
+    /// Whether there is room for a new file beside the file, as long as what the file has. A disk may take that room here.
+    fn has_room_beside(&self) -> bool {
+        true
+    }
 
     /// How often [`Disk::sync`] went well, and how long that took, where the disk knows it.
     fn syncs(&self) -> Syncs {

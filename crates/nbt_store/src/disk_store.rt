@@ -9,6 +9,7 @@ ghost use Rattle.nbt_store.specs.DiskStores.{Asks, IsNewFile, disk_of, is_broken
 use crate::change::Change;
 use crate::disk::Disk;
 use crate::header::Header;
+use crate::room::Room;
 use crate::store::{Broken, Store};
 use crate::syncs::Syncs;
 use crate::writing::{LINE_ROOM, write_change, write_file};
@@ -168,6 +169,16 @@ impl<D: Disk> Store for DiskStore<D> {
         ensures { is_some result ≡ is_broken self.now }
     {
         self.error.as_ref()
+    }
+
+    /// What the disk says of it.
+    fn room(&self) -> Room {
+        self.disk.room()
+    }
+
+    /// What the disk says of it.
+    fn can_renew(&self) -> bool {
+        self.disk.has_room_beside()
     }
 
     /// What the disk says of it.

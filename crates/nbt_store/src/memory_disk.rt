@@ -3,7 +3,9 @@
 ghost use Rattle.std.specs.Prelude.{⊤};
 
 use crate::disk::Disk;
+use crate::room::Room;
 use std::alloc::Global;
+use std::cell::Cell;
 use std::io;
 use std::io::ErrorKind;
 
@@ -34,6 +36,7 @@ pub struct MemoryDisk {
     installing: bool,
     calls: usize,
     trouble: Option<(usize, Trouble)>,
+    room: Cell<Room>,
     alloc: Global,
 }
 
@@ -79,8 +82,14 @@ impl MemoryDisk {
             installing: false,
             calls: 0,
             trouble,
+            room: Cell::new(Room::Ample),
             alloc,
         }
+    }
+
+    /// It has so much room from now on, and room for a new file where that is ample.
+    pub fn set_room(&self, room: Room) {
+        self.room.set(room);
     }
 
     /// How many calls there have been.
@@ -137,6 +146,14 @@ impl Disk for MemoryDisk {
         self.new = Some(new);
         self.installing = false;
         done
+    }
+
+    fn room(&self) -> Room {
+        self.room.get()
+    }
+
+    fn has_room_beside(&self) -> bool {
+        self.room.get().is_ample()
     }
 
     fn append(&mut self, octets: &[u8]) -> io::Result<()> {

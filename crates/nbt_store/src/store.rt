@@ -4,6 +4,7 @@ ghost use Rattle.nbt_store.specs.Calls.{StoreCall, appending, renewing, syncing}
 
 use crate::change::Change;
 use crate::header::Header;
+use crate::room::Room;
 use crate::syncs::Syncs;
 use nbt_lease::Lease;
 use nbt_name::Name;
@@ -37,6 +38,16 @@ pub trait Store {
 
     /// Whether what is kept has several times as many lines as leases with which it was written last, so that it is to be renewed.
     fn is_long(&self) -> bool;
+
+    /// How much room it has for changes that are still to be appended: where there is none, an append or a sync fails.
+    fn room(&self) -> Room {
+        Room::Ample
+    }
+
+    /// Whether there is room to write leases in place of all that is kept: where there is none, that fails.
+    fn can_renew(&self) -> bool {
+        true
+    }
 
     /// Why the first call that failed did, for people; `None` where none did.
     fn error(&self) -> Option<&io::Error>;

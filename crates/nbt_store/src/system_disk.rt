@@ -6,12 +6,18 @@ ghost use Rattle.std.specs.Prelude.{⊤};
 
 use crate::boot::Boot;
 use crate::disk::Disk;
+use crate::room::Room;
+use crate::spare::{
+    PAUSE, PAUSE_BESIDE, ROOM, is_full, is_little, room_of, without_room, write_zeros,
+};
 use crate::syncs::Syncs;
 use std::alloc::Global;
+use std::cell::Cell;
 use std::fs::{File, Metadata, OpenFile, Permissions};
-use std::io::{ErrorKind, Read, Write};
+use std::io::{ErrorKind, Read, Seek, SeekFrom, Write};
 use std::os::unix::fs::{MetadataExt, OpenOptionsExt, PermissionsExt};
 use std::rt::Files;
+use std::time::Duration;
 use std::{fs, io, time};
 
 /// What the file `lock` says (our profile): an empty file might be taken for one that may be replaced, and a lock whose file is
@@ -65,7 +71,8 @@ impl Mark {
 
 /// A folder of the system: its file `leases`, the new file `leases.new` beside it, and the file `lock`, which it holds locked for
 /// as long as it lasts. Whoever has this value has the lock. What is appended stays in memory until the next sync, which writes all
-/// of it at once.
+/// of it at once, over the zeros that the file has behind its lines as room for them. Where a disk is full, the file gets no room anew, and
+/// that is tried again once a second.
 #[derive(Drop)]
 pub struct SystemDisk<'a, R: Files> {
     machine: &'a R,
@@ -77,6 +84,18 @@ pub struct SystemDisk<'a, R: Files> {
     lock: Mark,
     _locked: File,
     open: Option<R::File>,
+    /// Which file that is.
+    mark: Option<Mark>,
+    /// How many octets its lines have that were written.
+    lines: u64,
+    /// How many it has with its room.
+    size: Cell<u64>,
+    /// When the disk had no room for it last.
+    refused: Cell<Option<Duration>>,
+    /// The new file beside it, where it has all its room.
+    prepared: Cell<Option<Mark>>,
+    /// When the disk had no room for a new file last.
+    refused_beside: Cell<Option<Duration>>,
     /// What was appended to the open file since the last sync.
     unwritten: Vec<u8>,
     syncs: Syncs,
@@ -106,6 +125,12 @@ impl<'a, R: Files<File = File>> SystemDisk<'a, R> {
             lock,
             _locked: locked,
             open: None,
+            mark: None,
+            lines: 0,
+            size: Cell::new(0),
+            refused: Cell::new(None),
+            prepared: Cell::new(None),
+            refused_beside: Cell::new(None),
             unwritten: Vec::new(alloc),
             syncs: Syncs::NONE,
         };
@@ -113,18 +138,9 @@ impl<'a, R: Files<File = File>> SystemDisk<'a, R> {
         Ok(disk)
     }
 
-    /// The octets of the file; `None` where there is none. Refused where it is no regular file, or has 64 MiB or more; or if out of memory.
+    /// The octets of the file, as [`leases_at`] has them.
     pub fn read(&self, alloc: Global) -> io::Result<Option<Vec<u8>>> {
-        check_kind(
-            self.machine,
-            self.path.as_str(),
-            "leases is no regular file",
-        )?;
-        match octets_of(self.machine, alloc, self.path.as_str()) {
-            Ok(octets) => Ok(Some(octets)),
-            Err(why) if why.kind() == ErrorKind::NotFound => Ok(None),
-            Err(why) => Err(why),
-        }
+        leases_at(self.machine, alloc, self.path.as_str())
     }
 
     /// Renames the file `leases.bad`, in place of an earlier one of that name, so that what could not be loaded isn't lost where
@@ -142,6 +158,25 @@ impl<'a, R: Files> SystemDisk<'a, R> {
     }
 }
 
+/// The octets of the file of leases at a path, without its room; `None` where there is none. Refused where it is no regular file, or has
+/// 64 MiB or more; or if out of memory.
+pub fn leases_at<R: Files>(machine: &R, alloc: Global, path: &str) -> io::Result<Option<Vec<u8>>> {
+    check_kind(machine, path, "leases is no regular file")?;
+    match octets_of(machine, alloc, path) {
+        Ok(octets) => Ok(Some(cut(octets))),
+        Err(why) if why.kind() == ErrorKind::NotFound => Ok(None),
+        Err(why) => Err(why),
+    }
+}
+
+/// These octets of a file, without its room.
+fn cut(octets: Vec<u8>) -> Vec<u8> {
+    let mut octets = octets;
+    let count = without_room(octets.as_slice()).len();
+    octets.truncate(count);
+    octets
+}
+
 impl<R: Files> SystemDisk<'_, R> {
     /// Refused where the file `lock` of the folder isn't the one any more that is locked: the folder was moved, or another is in its
     /// place.
@@ -150,13 +185,108 @@ impl<R: Files> SystemDisk<'_, R> {
     }
 }
 
+impl<R: Files + time::Clock> SystemDisk<'_, R> {
+    /// How many octets of the open file's room are left for what is still to be appended.
+    fn left(&self) -> u64 {
+        self.size
+            .get()
+            .saturating_sub(self.lines)
+            .saturating_sub(self.unwritten.len() as u64)
+    }
+
+    /// The reading of the clock, where it has one.
+    fn now(&self) -> Option<Duration> {
+        self.machine.monotonic().ok()
+    }
+
+    /// Whether it is so many milliseconds since a time, if there was one.
+    fn is_since(&self, before: Option<Duration>, pause: u64) -> bool {
+        match (before, self.now()) {
+            (Some(before), Some(now)) => {
+                now.saturating_sub(before).as_millis() >= u128::from(pause)
+            }
+            _ => true,
+        }
+    }
+
+    /// Gives the open file the room that it lacks, as far as the disk has it, and makes that durable. Refused where another file is in
+    /// its place, and where the disk fails or is full.
+    fn extend(&self) -> io::Result<()> {
+        let mut how = File::options();
+        how.append(true);
+        let mut file = how.open(self.machine, self.path.as_str())?;
+        if self.mark != Some(Mark::of(&file.metadata()?)) {
+            return Err(moved());
+        }
+        let done = write_zeros(&mut file, ROOM.saturating_sub(self.left()));
+        file.sync_data()?;
+        self.size.set(file.seek(SeekFrom::End(0))?);
+        done
+    }
+
+    /// Makes the new file beside the file, with zeros where its lines will be and as its room, and makes that durable.
+    fn prepare(&self) -> io::Result<Mark> {
+        self.check()?;
+        check_new(self.machine, self.new_path.as_str())?;
+        let mut file = new_file(self.machine, self.new_path.as_str())?;
+        write_zeros(&mut file, self.lines.saturating_add(ROOM))?;
+        file.sync_data()?;
+        Ok(Mark::of(&file.metadata()?))
+    }
+
+    /// The new file: that which was prepared, or one without octets.
+    fn open_new(&self) -> io::Result<R::File> {
+        let path = self.new_path.as_str();
+        check_new(self.machine, path)?;
+        match self.prepared.replace(None) {
+            Some(mark) => opened_as(self.machine, path, mark),
+            None => new_file(self.machine, path),
+        }
+    }
+}
+
+/// Refused where something else than a regular file stands where the new file is to be.
+fn check_new<R: Files>(machine: &R, path: &str) -> io::Result<()> {
+    check_kind(machine, path, "leases.new is no regular file")
+}
+
+/// Opens the file of this mark at a path, to be written over from its begin on. Refused where another one is there.
+fn opened_as<R: Files>(machine: &R, path: &str, mark: Mark) -> io::Result<R::File> {
+    let mut how = File::options();
+    how.write(true);
+    let file = how.open(machine, path)?;
+    if Mark::of(&file.metadata()?) == mark {
+        Ok(file)
+    } else {
+        Err(moved())
+    }
+}
+
+/// Gives a file room behind lines of so many octets, as far as the disk has it, and goes back to their end. Returns how many octets it has
+/// then. Refused where the disk fails in another way than that it is full.
+fn add_room<F: Write + Seek>(file: &mut F, lines: u64) -> io::Result<u64> {
+    let size = file.seek(SeekFrom::End(0))?;
+    match write_zeros(file, lines.saturating_add(ROOM).saturating_sub(size)) {
+        Err(error) if !is_full(&error) => return Err(error),
+        _ => {}
+    }
+    let size = file.seek(SeekFrom::End(0))?;
+    file.seek(SeekFrom::Start(lines))?;
+    Ok(size)
+}
+
+/// What is said of a folder, or a file, in whose place there is another.
+fn moved() -> io::Error {
+    io::Error::other("the folder was moved or replaced")
+}
+
 /// Refused where another file than this one is at a path. No link is followed.
 fn check_mark<R: Files>(machine: &R, path: &str, mark: Mark) -> io::Result<()> {
     let there = fs::symlink_metadata(machine, path)?;
     if there.is_file() && Mark::of(&there) == mark {
         Ok(())
     } else {
-        Err(io::Error::other("the folder was moved or replaced"))
+        Err(moved())
     }
 }
 
@@ -257,13 +387,12 @@ impl<'a, R: Files + time::Clock> Disk for SystemDisk<'a, R> {
 
     fn create(&mut self, octets: &[u8]) -> io::Result<()> {
         self.check_lock()?;
-        check_kind(
-            self.machine,
-            self.new_path.as_str(),
-            "leases.new is no regular file",
-        )?;
-        let mut file = new_file(self.machine, self.new_path.as_str())?;
+        let mut file = self.open_new()?;
         file.write_all(octets)?;
+        let lines = octets.len() as u64;
+        self.size.set(add_room(&mut file, lines)?);
+        self.lines = lines;
+        self.mark = Some(Mark::of(&file.metadata()?));
         self.open = Some(file);
         self.unwritten.clear();
         Ok(())
@@ -279,6 +408,7 @@ impl<'a, R: Files + time::Clock> Disk for SystemDisk<'a, R> {
         let before = self.machine.monotonic();
         let file = opened(&mut self.open)?;
         file.write_all(self.unwritten.as_slice())?;
+        self.lines = self.lines.saturating_add(self.unwritten.len() as u64);
         self.unwritten.clear();
         file.sync_data()?;
         self.syncs.add(before, self.machine.monotonic());
@@ -288,6 +418,38 @@ impl<'a, R: Files + time::Clock> Disk for SystemDisk<'a, R> {
     fn install(&mut self) -> io::Result<()> {
         fs::rename(self.machine, self.new_path.as_str(), self.path.as_str())?;
         sync_folder(self.machine, self.folder)
+    }
+
+    fn room(&self) -> Room {
+        if is_little(self.left()) && self.is_since(self.refused.get(), PAUSE) {
+            match self.extend() {
+                Ok(()) => self.refused.set(None),
+                Err(_) => self.refused.set(self.now()),
+            }
+        }
+        room_of(self.left())
+    }
+
+    fn has_room_beside(&self) -> bool {
+        if self.prepared.get().is_some() {
+            return true;
+        }
+        if !self.is_since(self.refused_beside.get(), PAUSE_BESIDE) {
+            return false;
+        }
+        match self.prepare() {
+            Ok(mark) => {
+                self.prepared.set(Some(mark));
+                true
+            }
+            Err(error) if is_full(&error) => {
+                let _ = fs::remove_file(self.machine, self.new_path.as_str());
+                self.refused_beside.set(self.now());
+                false
+            }
+            // Its writing fails then, and says why.
+            Err(_) => true,
+        }
     }
 
     fn syncs(&self) -> Syncs {

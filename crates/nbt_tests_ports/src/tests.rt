@@ -2,6 +2,7 @@
 
 mod addresses;
 mod expect;
+mod front_files;
 mod host;
 mod hosting;
 mod log;

@@ -14,6 +14,7 @@ mod first_lines;
 mod fixing;
 mod folders;
 mod following;
+mod full;
 mod keeping;
 mod locks;
 mod older;

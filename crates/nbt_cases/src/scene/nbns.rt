@@ -4,6 +4,7 @@ use crate::scene::kept::kept_leases;
 use crate::scene::paper::ScenePaper;
 use crate::scene::place::ScenePlace;
 use crate::scene::port::ScenePort;
+use crate::scene::renewed::SceneFiles;
 use crate::scene::script::Scene;
 use crate::scene::stage::Stage;
 use crate::scene::watch::{Day, Sleeper, Steady};
@@ -12,7 +13,7 @@ use nbt_front::{Desk, Front, FrontPort, read_fixed, read_network};
 use nbt_lease::{Config, Lease, Moment};
 use nbt_log::{Dates, FixedCapitals, Origin, Tally};
 use nbt_name::Name;
-use nbt_nbns::{Content, Journal, Keeper, Logger, State, keep_on};
+use nbt_nbns::{Content, Journal, Keeper, Logger, State, keep_renewed};
 use nbt_port::{Fault, Port, until_of};
 use nbt_serve::SambaPort;
 use nbt_server::Server;
@@ -44,11 +45,13 @@ pub fn serve(
     let rows = kept_leases(alloc, scene)?.ok_or(Fault::NoPort)?;
     let mut server = server_of(alloc, config, stage.now(), rows.as_slice())?;
     server.limit_clients(clients);
+    let mut files = SceneFiles::new(alloc, scene, config);
     serve_with(
         stage,
         alloc,
         texts,
         &front,
+        &mut files,
         rows,
         &mut server,
         writer,
@@ -62,6 +65,7 @@ fn serve_with(
     alloc: Global,
     texts: &NbnsTexts<'_>,
     front: &Front,
+    files: &mut SceneFiles<'_>,
     rows: Vec<(Name, Lease)>,
     server: &mut Server,
     writer: &mut ScenePaper<'_, '_>,
@@ -78,6 +82,7 @@ fn serve_with(
         stage,
         alloc,
         desk,
+        files,
         texts,
         server,
         &mut journal,
@@ -191,6 +196,7 @@ fn serve_behind(
     stage: &Stage<'_>,
     alloc: Global,
     desk: Desk<'_, Steady<'_, '_>>,
+    files: &mut SceneFiles<'_>,
     texts: &NbnsTexts<'_>,
     server: &mut Server,
     journal: &mut SceneJournal<'_, '_>,
@@ -205,35 +211,37 @@ fn serve_behind(
     if texts.strict {
         let mut port = FrontPort::new(port, desk);
         watch(
-            &mut port, stage, alloc, server, journal, until, writer, errors,
+            &mut port, stage, alloc, server, journal, files, until, writer, errors,
         )
     } else {
         let mut port = FrontPort::new(SambaPort::new(port), desk);
         watch(
-            &mut port, stage, alloc, server, journal, until, writer, errors,
+            &mut port, stage, alloc, server, journal, files, until, writer, errors,
         )
     }
 }
 
-/// Watches a server without a state until it ends.
+/// Watches a server without a state until it ends, with the files that take the place of that of fixed names.
 fn watch<P: Port>(
-    port: &mut P,
+    port: &mut FrontPort<'_, P, Steady<'_, '_>>,
     stage: &Stage<'_>,
     alloc: Global,
     server: &mut Server,
     journal: &mut SceneJournal<'_, '_>,
+    files: &mut SceneFiles<'_>,
     until: Option<Moment>,
     writer: &mut ScenePaper<'_, '_>,
     errors: &mut ScenePaper<'_, '_>,
 ) -> Result<(), Fault> {
     let mut no_state: Option<State<DiskStore<MemoryDisk>>> = None;
-    keep_on(
+    keep_renewed(
         port,
         &mut Steady(stage),
         server,
         &mut no_state,
         &mut Day(stage),
         journal,
+        files,
         until,
         alloc,
         &Sleeper(stage),

@@ -22,6 +22,8 @@ pub struct Scene {
     pub kept: Vec<String>,
     /// The file of fixed names.
     pub fixed: Vec<u8>,
+    /// The files that take its place later, in their order.
+    pub later: Vec<LaterFile>,
     pub lines: Vec<Line>,
     /// The lines as they were written.
     pub texts: Vec<String>,
@@ -42,6 +44,7 @@ impl Scene {
             rows: ROWS_MOST,
             kept: Vec::new(rt.alloc()),
             fixed: Vec::new(rt.alloc()),
+            later: Vec::new(rt.alloc()),
             lines: Vec::new(rt.alloc()),
             texts: Vec::new(rt.alloc()),
         };
@@ -122,6 +125,15 @@ impl Scene {
             ("rows", text) => self.rows = text.parse().unwrap_or(0),
             ("kept", text) => self.kept.push(names.words_of(alloc, text)?)?,
             ("fixed", text) => names.push_line(alloc, text, &mut self.fixed)?,
+            ("replaced", text) => self.later.push(LaterFile {
+                at: text.parse().unwrap_or(u64::MAX),
+                octets: Vec::new(alloc),
+            })?,
+            ("later", text) => {
+                if let Some(file) = self.later.as_mut_slice().last_mut() {
+                    names.push_line(alloc, text, &mut file.octets)?;
+                }
+            }
             _ => {
                 self.lines.push(Line::read(rt, names, line)?)?;
                 self.texts.push(String::from_str(alloc, line)?)?;
@@ -177,6 +189,13 @@ impl Scene {
         }
         Ok(())
     }
+}
+
+/// A file of fixed names that takes the place of another one, at this moment.
+#[derive(Drop)]
+pub struct LaterFile {
+    pub at: u64,
+    pub octets: Vec<u8>,
 }
 
 /// Lines that are repeated for each number from the first to the last, which stands for `@` in them.

@@ -7,6 +7,7 @@ use Rattle.nbt_port.specs.PortCalls.{came, receiving, Chain}
 use Rattle.nbt_server.specs.Serving.{ServerValue}
 use Rattle.nbt_store.specs.declared.change.Change.{Change}
 use Rattle.nbt_store.specs.declared.change.Change.TheVariants.{Reached}
+use Rattle.nbt_store.specs.declared.room.Room.{Room}
 use Rattle.nbt_store.specs.Calls.{StoreCall, append_failed}
 use Rattle.nbt_serve.specs.Serving.{Turn, moments_in, IsLogged}
 use Rattle.nbt_serve.specs.Sharing.{ShareValue}
@@ -22,7 +23,8 @@ module _ {S C : Type 0} (keeps : S → StoreCall → S → Type 0) (tells : C �
     pub takes : Takes old took new
     pub logged : IsLogged takes.server entry
     pub changed : is_some took.change ≡ changes_in entry
-    pub shared : TakesShareOf old_share took share
+    pub room : Room
+    pub shared : TakesShareOf room old_share took share
     pub received : receive_in took.barred took.turn ≡ receiving (Ok route) octets
     pub idle : is_idle took.barred took.turn ≡ not (is_some route)
     pub asked : asked_for took.turn ≡ query_in entry

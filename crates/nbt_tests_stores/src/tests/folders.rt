@@ -1,13 +1,15 @@
 //! Folders of this system that keep a server's leases: which file has them, who may use one, and what is said of one that can't be used.
 
-use super::expect::{expect, expect_eq, expect_eq_in};
+use super::expect::{expect, expect_eq, expect_eq_in, expect_in};
 use super::following::machine_refusing;
 use nbt_front::{FixedNames, Front};
 use nbt_lease::{Config, Lease, Moment};
 use nbt_name::{Addr, Kind, Name};
 use nbt_nbns::{Folder, FolderStore, NbnsArguments, ServerArguments, StateFolder, run_server};
 use nbt_port::{Bind, Fault};
-use nbt_store::{Boot, Broken, Change, DiskStore, Header, Store, SystemDisk, load, this_boot};
+use nbt_store::{
+    Boot, Broken, Change, DiskStore, Header, Room, Store, SystemDisk, leases_at, load, this_boot,
+};
 use nbt_testing::config;
 use std::fs::File;
 use std::net::Net;
@@ -60,10 +62,17 @@ pub fn header(rt: &impl Abort) -> Header {
     )
 }
 
+/// The lines of the file of leases of a folder.
+fn lines_in<R: Abort + AllocGlobal + Files>(rt: &R, folder: &str) -> Vec<u8> {
+    let path = path_in(rt, folder, "leases");
+    leases_at(rt, rt.alloc(), path.as_str())
+        .expect(rt, "read")
+        .expect(rt, "a file")
+}
+
 /// How many leases the file of a folder has.
 fn kept<R: Abort + AllocGlobal + Files>(rt: &R, folder: &str) -> usize {
-    let text = text_in(rt, folder, "leases").expect(rt, "a file");
-    load(rt.alloc(), text.as_bytes())
+    load(rt.alloc(), lines_in(rt, folder).as_slice())
         .expect(rt, "load")
         .rows
         .len()
@@ -640,9 +649,102 @@ fn a_batch_is_one_write(rt: HostRuntime) {
     let folder = path_for(&rt, "batch").expect(&rt, "a path");
     fs::create_dir(&rt, folder.as_str()).expect(&rt, "a folder");
     expect_eq(&rt, &writes_of_a_batch(&rt, folder.as_str()), &1);
-    let text = text_in(&rt, folder.as_str(), "leases").expect(&rt, "a file");
-    expect_eq(&rt, &text.as_str().lines().count(), &67);
+    let lines = lines_in(&rt, folder.as_str());
+    let count = lines
+        .as_slice()
+        .iter()
+        .filter(|octet| **octet == b'\n')
+        .count();
+    expect_eq(&rt, &count, &67);
     fs::remove_dir_all(&rt, folder.as_str()).expect(&rt, "removed");
+}
+
+/// So many octets of room a file gets.
+const ROOM: u64 = 1 << 20;
+
+/// How many octets the file of leases of a folder has, and how many of them are lines.
+fn sizes<R: Abort + AllocGlobal + Files>(rt: &R, folder: &str) -> (u64, u64) {
+    let path = path_in(rt, folder, "leases");
+    let all = fs::metadata(rt, path.as_str()).expect(rt, "its attributes");
+    (all.len(), lines_in(rt, folder).len() as u64)
+}
+
+/// A file has its room behind the lines with which it was written. What comes later is written over that, and what is written anew has
+/// as much again, where room for it was got before and where it wasn't.
+fn expect_room<R: Abort + AllocGlobal + Files<File = File> + time::Clock>(rt: &R, folder: &str) {
+    let mut store = open_new(rt, folder, &[row(rt)]);
+    let (first, lines) = sizes(rt, folder);
+    expect_eq(rt, &first, &lines.saturating_add(ROOM));
+    store
+        .append(&Change::Reached { at: 6 })
+        .expect(rt, "memory");
+    store.sync().expect(rt, "sync");
+    let (second, more) = sizes(rt, folder);
+    expect_eq(rt, &(second, lines < more), &(first, true));
+    expect_eq(rt, &store.room(), &Room::Ample);
+    for is_asked in [true, false] {
+        expect(rt, !is_asked || store.can_renew());
+        store.renew(&header(rt), &[row(rt)]).expect(rt, "renew");
+        let (anew, lines) = sizes(rt, folder);
+        expect(rt, lines.saturating_add(ROOM) <= anew);
+        expect(rt, anew <= second.saturating_add(ROOM));
+        store
+            .append(&Change::Reached { at: 7 })
+            .expect(rt, "memory");
+        store.sync().expect(rt, "sync");
+        expect_eq(rt, &sizes(rt, folder).0, &anew);
+        expect_eq(rt, &kept(rt, folder), &1)
+    }
+}
+
+#[test]
+fn a_file_has_room_for_lines_to_come(rt: HostRuntime) {
+    let folder = path_for(&rt, "room").expect(&rt, "a path");
+    fs::create_dir(&rt, folder.as_str()).expect(&rt, "a folder");
+    expect_room(&rt, folder.as_str());
+    fs::remove_dir_all(&rt, folder.as_str()).expect(&rt, "removed");
+}
+
+/// A part of a file: so many times this octet.
+type Part = (u8, usize);
+
+/// The parts of a file, and how many octets of it are read: up to a zero from which its sector of 512 octets has zeros alone.
+const PARTS: &[(&[Part], usize)] = &[
+    (&[(b'a', 700)], 700),
+    (&[(b'a', 700), (0, 1)], 700),
+    (&[(b'a', 700), (0, 9_000)], 700),
+    (&[(b'a', 512), (0, 512), (b'b', 100), (0, 9_000)], 512),
+    (&[(b'a', 700), (0, 324), (b'b', 100), (0, 9_000)], 700),
+    // What no crash leaves is read whole: it is damage.
+    (&[(b'a', 700), (0, 1), (b'b', 100)], 801),
+    (&[(b'a', 700), (0, 323), (b'b', 100)], 1_123),
+    (&[(0, 3), (b'a', 100)], 103),
+    (&[(0, 700)], 0),
+    (&[], 0),
+];
+
+/// A file of these parts.
+fn octets_of(rt: &(impl Abort + AllocGlobal), parts: &[Part]) -> Vec<u8> {
+    let mut octets = Vec::new(rt.alloc());
+    for (octet, count) in parts {
+        let size = octets.len().saturating_add(*count);
+        octets.resize(size, *octet).expect(rt, "memory");
+    }
+    octets
+}
+
+#[test]
+fn a_file_is_read_up_to_its_room(rt: HostRuntime) {
+    let path = path_for(&rt, "parts").expect(&rt, "a path");
+    for (parts, count) in PARTS {
+        let octets = octets_of(&rt, parts);
+        fs::write(&rt, path.as_str(), octets.as_slice()).expect(&rt, "written");
+        let read = leases_at(&rt, rt.alloc(), path.as_str()).expect(&rt, "read");
+        let read = read.expect(&rt, "a file");
+        expect_eq_in(&rt, parts, &read.len(), count);
+        expect_in(&rt, parts, octets.as_slice().starts_with(read.as_slice()));
+    }
+    fs::remove_file(&rt, path.as_str()).expect(&rt, "removed");
 }
 
 /// A file of leases that is there, and can't be read, is not taken for none: a server would put a new one in its place.

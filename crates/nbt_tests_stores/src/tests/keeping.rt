@@ -13,7 +13,7 @@ use nbt_nbns::{Journal, MemoryPlace, State, Teller, keep_on};
 use nbt_port::{Datagram, Fault, MemoryClock, MemoryPort, Port, Route};
 use nbt_serve::{BATCH, KeepFault, Share, Waiting, keep_turn};
 use nbt_server::Server;
-use nbt_store::{Boot, DiskStore, Header, MemoryDisk, Trouble, load};
+use nbt_store::{Boot, DiskStore, Header, MemoryDisk, Room, Trouble, load};
 use nbt_testing::{
     GRANTED, NOT_FOUND, QUERY, REFUSED, REGISTRATION, RELEASE, RIVAL, Row, clock, config, octets,
     one_of_many, registration_of_many, sent_all,
@@ -479,9 +479,14 @@ fn turn<R: Abort>(
     }
 }
 
-fn expect_turns<R: Abort>(rt: &R, row: &Kept, stage: &mut Stage) {
+/// Plays the turns of a row. Before each the disk has the room that stands at its place among these, if one does.
+fn expect_turns<R: Abort>(rt: &R, row: &Kept, rooms: &[Room], stage: &mut Stage) {
     let mut octets = ArrayVec::new();
+    let mut rooms = rooms.iter();
     for (came, sent, calls) in row.turns {
+        if let Some(room) = rooms.next() {
+            stage.store.disk().set_room(*room);
+        }
         expect_eq_in(rt, &row.name, &turn(rt, stage, &mut octets), came);
         expect_eq_in(rt, &row.name, &stage.port.sent().len(), sent);
         expect_eq_in(rt, &row.name, &stage.store.disk().calls(), calls);
@@ -497,12 +502,12 @@ impl Scene for Kept {
         server: &mut Server,
     ) {
         let mut share = Share::new(rt.alloc(), 0);
-        self.play_with(rt, port, clock, server, &mut share)
+        self.play_with(rt, port, clock, server, &mut share, &[])
     }
 }
 
 impl Kept {
-    /// Plays it with these shares of its clients.
+    /// Plays it with these shares of its clients, and with a disk that has this room in each turn.
     pub fn play_with<R: Abort + AllocGlobal + time::Clock>(
         &self,
         rt: &R,
@@ -510,6 +515,7 @@ impl Kept {
         clock: &mut MemoryClock,
         server: &mut Server,
         share: &mut Share,
+        rooms: &[Room],
     ) {
         if let Some(calls) = self.port_fails {
             port.fail_after(calls);
@@ -524,7 +530,7 @@ impl Kept {
             share,
             waiting: &mut waiting,
         };
-        expect_turns(rt, self, &mut stage);
+        expect_turns(rt, self, rooms, &mut stage);
         sent_all(rt, stage.port, self.sent).expect(rt, "sent")
     }
 }
@@ -902,13 +908,13 @@ fn journal<R: Abort + AllocGlobal>(rt: &R) -> Journal<MemoryClock, MemoryPlace> 
 pub type MemoryState = State<DiskStore<MemoryDisk>>;
 
 /// What a server keeps at first, where all is durable up to this time, and a client may make so many changes in a second.
-pub fn state_of<R: Abort + AllocGlobal>(
+pub fn state_of<R: Abort + AllocGlobal, S: Drop>(
     rt: &R,
-    store: DiskStore<MemoryDisk>,
+    store: S,
     header: Header,
     durable: u64,
     changes: u32,
-) -> Option<MemoryState>
+) -> Option<State<S>>
     ensures { HasRoom result }
 {
     let waiting = Waiting::new(rt.alloc(), durable).expect(rt, "waiting");

@@ -63,7 +63,8 @@ impl Scene for Shared {
         server: &mut Server,
     ) {
         let mut share = Share::new(rt.alloc(), self.limit);
-        self.kept.play_with(rt, port, clock, server, &mut share);
+        self.kept
+            .play_with(rt, port, clock, server, &mut share, &[]);
         expect_eq_in(rt, &self.kept.name, &share.barred(), &self.barred);
         expect_eq_in(rt, &self.kept.name, &share.last_barred(), &self.last);
     }

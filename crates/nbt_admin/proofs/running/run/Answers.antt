@@ -25,3 +25,11 @@ pub returns-in_err-serve-in-Nbns-clause-failure : goal.returns-in_err-serve-in-N
 returns-in_err-serve-in-Nbns-clause-failure g c =
     let p = err_from_is_err_and c.from_residual-in_err-serve-in-Nbns.result c.from_residual-in_err-serve-in-Nbns.ensures.1 in
     rw (p.1, p.2) (inl tt)
+
+pub returns-in_err-read_front-in-Nbns-clause-failure : goal.returns-in_err-read_front-in-Nbns-clause-failure
+returns-in_err-read_front-in-Nbns-clause-failure g c =
+    let p = err_from_is_err_and c.from_residual-in_err-read_front-in-Nbns.result c.from_residual-in_err-read_front-in-Nbns.ensures.1 in
+    rw (p.1, p.2, c.in-Nbns.is) (elim c.in_err-read_front-in-Nbns.ensures.failure [
+      | inl is ↦ inl is
+      | inr fails ↦ inr (inr fails)
+    ])

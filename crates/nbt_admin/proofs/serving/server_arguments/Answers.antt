@@ -1,9 +1,7 @@
-use Rattle.std.proofs.Common.{[], ◌≡◌, inl, inr, Ok, Err}
-use Rattle.std.specs.Prelude.{◌≢◌}
+use Rattle.std.proofs.Common.{[], inl, inr, Ok, Err}
 use Rattle.std.proofs.lemmas.Result.{err_from_is_err_and}
-use Rattle.nbt_admin.specs.Reading.{Each, Then, Fits}
-use Rattle.nbt_admin.specs.Serving.{ReadsNetwork, ReadsNbns}
-use Rattle.nbt_admin.specs.declared.failure.ArgumentFault.TheVariants as w
+use Rattle.nbt_admin.specs.Reading.{Each, Then}
+use Rattle.nbt_admin.specs.Serving.{NeedsPaths, ReadsNetwork, ReadsNbns}
 use Rattle.nbt_admin.proofs.Each.{from_none, goes_on}
 use Rattle.nbt_admin.proofs.serving.server_arguments.Goals as goal
 
@@ -12,16 +10,16 @@ returns-in_err-allowed c =
     let p = err_from_is_err_and c.from_residual.result c.from_residual.ensures.1 in
     rw (p.1, p.2) (inr (inl (from_none ReadsNetwork c.new.result.items c.as_slice.result.now c.args.texts.now.allow.items (Err c.in_err-allowed.field-0.0) c.new.ensures.items c.as_slice.ensures.value c.in_err-allowed.ensures.failure)))
 
-pub returns-in_err-expect_path : goal.returns-in_err-expect_path
-returns-in_err-expect_path c =
-    let p = err_from_is_err_and c.from_residual-in_err-expect_path.result c.from_residual-in_err-expect_path.ensures.1 in
-    rw (p.1, p.2) (inr (inr (c.in_ok-allowed.allowed.items, (from_none ReadsNetwork c.new.result.items c.as_slice.result.now c.args.texts.now.allow.items (Ok c.in_ok-allowed.allowed.items) c.new.ensures.items c.as_slice.ensures.value c.in_ok-allowed.ensures.read, inr (inl c.in_err-expect_path.ensures)))))
+pub returns-in_err-expect_paths : goal.returns-in_err-expect_paths
+returns-in_err-expect_paths c =
+    let p = err_from_is_err_and c.from_residual-in_err-expect_paths.result c.from_residual-in_err-expect_paths.ensures.1 in
+    rw (p.1, p.2) (inr (inr (c.in_ok-allowed.allowed.items, (from_none ReadsNetwork c.new.result.items c.as_slice.result.now c.args.texts.now.allow.items (Ok c.in_ok-allowed.allowed.items) c.new.ensures.items c.as_slice.ensures.value c.in_ok-allowed.ensures.read, inr (inl c.in_err-expect_paths.ensures)))))
 
 pub returns : goal.returns
 returns c =
     let texts = c.args.texts.now in
     let allowed = c.in_ok-allowed.allowed.items in
     let result = c.nbns_arguments.result in
-    goes_on (Each ReadsNetwork [] texts.allow.items) (λ networks. Then (Fits (λ path. path ≢ []) w.NoFixed texts.fixed) (λ _. ReadsNbns texts networks)) allowed result
+    goes_on (Each ReadsNetwork [] texts.allow.items) (λ networks. Then (NeedsPaths texts) (λ _. ReadsNbns texts networks)) allowed result
     (from_none ReadsNetwork c.new.result.items c.as_slice.result.now c.args.texts.now.allow.items (Ok c.in_ok-allowed.allowed.items) c.new.ensures.items c.as_slice.ensures.value c.in_ok-allowed.ensures.read)
-    (goes_on (Fits (λ path. path ≢ []) w.NoFixed texts.fixed) (λ _. ReadsNbns texts allowed) tt result c.in_ok-expect_path.ensures c.nbns_arguments.ensures)
+    (goes_on (NeedsPaths texts) (λ _. ReadsNbns texts allowed) tt result c.in_ok-expect_paths.ensures c.nbns_arguments.ensures)

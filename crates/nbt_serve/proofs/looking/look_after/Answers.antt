@@ -1,6 +1,6 @@
 use Rattle.std.proofs.Common.{◌≡◌, ℕ, ◌≤◌, true, false, refl, sym, subst, arith}
 use Rattle.std.proofs.lemmas.Bool.{false≢true}
-use Rattle.nbt_serve.specs.Looking.{is_line_due, replies_wait, goes_back, stays}
+use Rattle.nbt_serve.specs.Looking.{is_line_due, replies_wait, goes_back, has_no_room, stays}
 use Rattle.nbt_serve.proofs.Looked.{renewed_look, line_look}
 use Rattle.nbt_serve.proofs.looking.look_after.Goals as goal
 
@@ -9,6 +9,11 @@ returns-then-not-is_clear g c = replies_wait (λ none. false≢true (c.if-not-is
 
 pub returns-then-get-durable : goal.returns-then-get-durable
 returns-then-get-durable g c = let a = c.get.ensures.value in let d = c.durable.ensures in let l = c.if-get-durable.true in goes_back (omega (arith, a, d, l))
+
+pub returns-then-is_spent : goal.returns-then-is_spent
+returns-then-is_spent g c =
+    let onward = subst (λ (n : ℕ). n ≤ c.args.at) c.durable.ensures (subst (λ (n : ℕ). c.durable.result ≤ n) c.get.ensures.value c.if-get-durable.false) in
+    has_no_room c.now-time.result c.now-time.new.self (c.if-not-is_clear.ensures.0 refl) onward c.now-time.ensures
 
 pub returns-then-is_wanted : goal.returns-then-is_wanted
 returns-then-is_wanted g c =

@@ -4,6 +4,7 @@ use Rattle.std.proofs.lemmas.Result.{err_from_is_err_and}
 use Rattle.nbt_port.specs.declared.port.Route.{Route}
 use Rattle.nbt_port.specs.PortCalls.{receive_failed, receiving}
 use Rattle.nbt_port.proofs.Chains.{chain-append}
+use Rattle.nbt_store.specs.declared.room.Room.TheVariants as there_is
 use Rattle.nbt_serve.specs.Devices.{on_port, DeviceDoes}
 use Rattle.nbt_serve.specs.Turning.{taking, stores, receive_in, told_in, receive_fails}
 use Rattle.nbt_serve.specs.Waiting.{ReplyValue, WaitingValue, batch}
@@ -24,6 +25,7 @@ returns-in_err-came-clause-err g c =
       fails = receive_fails;
       devices_did = not_received g.P.Port.does g.S.Store.does c.args.port.now c.receive.new.port c.args.store.now c.in_err-came.ensures.does;
       clock_told = refl;
+      room = there_is.Ample;
       shared = λ port. refl;
     })
 
@@ -53,6 +55,7 @@ returns-in-Ok-clause-ok g c =
       takes = t.takes;
       logged = t.logged;
       changed = t.changed;
+      room = t.room;
       shared = t.shared;
       passes = passed_so server.table.config.life t.took old a.waiting (not (is_some c.in_ok-came.came)) c.in_ok-synced.synced (query_in a.entry) (reply_to server.last (name_in_any a.entry) (goes_to c.in_ok-came.came a.entry) a.reply.items) t.synced_is t.waiting_is t.idle t.asked t.reply
           (quiet_query a.entry t.took.change t.changed) c.in-Ok.sent.ahead l.0 l.1 c.pass.new.self l.2;
@@ -84,6 +87,7 @@ returns-in-Err-clause-err g c =
           (subst (λ (xs : List ℕ). g.P.Port.does c.args.port.now (receiving (Ok c.in_ok-came.came) xs) q) (sym c.as_slice.ensures.value) c.in_ok-came.ensures.does) t.stored)
           l.3;
       clock_told = chain-append g.C.Clock.tells c.args.clock.now a.clock c.pass.new.clock (told_in t.took.barred t.took.turn) l.1 t.clock_told l.4;
+      room = t.room;
       shared = λ port. t.shared;
     }
 

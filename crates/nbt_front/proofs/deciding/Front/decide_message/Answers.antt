@@ -1,5 +1,5 @@
 use Rattle.nbt_server.specs.Serving.{by_registration, by_refresh}
-use Rattle.nbt_front.specs.Deciding.{desk_of}
+use Rattle.nbt_front.specs.Deciding.{desk_at}
 use Rattle.nbt_front.proofs.Rulings.{if_some, if_none, others_pass}
 use Rattle.nbt_front.proofs.deciding.Front.decide_message.Goals as goal
 
@@ -16,10 +16,10 @@ pub returns-in-Refresh-clause-passed : goal.returns-in-Refresh-clause-passed
 returns-in-Refresh-clause-passed c = rw c.in-Refresh.is (if_none c.claim-in-Refresh.result (λ h. h _ (by_refresh c.in-Refresh.claim)) c.claim-in-Refresh.ensures.passed)
 
 pub returns-in-Overwrite-clause-decided : goal.returns-in-Overwrite-clause-decided
-returns-in-Overwrite-clause-decided c = rw c.in-Overwrite.is (c.overwrite.ensures.decided c.args.standing.now.rows.now c.args.standing.now.at)
+returns-in-Overwrite-clause-decided c = rw c.in-Overwrite.is c.overwrite.ensures.decided
 
 pub returns-in-Overwrite-clause-passed : goal.returns-in-Overwrite-clause-passed
-returns-in-Overwrite-clause-passed c = rw c.in-Overwrite.is (c.overwrite.ensures.passed c.args.standing.now.rows.now c.args.standing.now.at)
+returns-in-Overwrite-clause-passed c = rw c.in-Overwrite.is c.overwrite.ensures.passed
 
 pub returns-in-Release-clause-decided : goal.returns-in-Release-clause-decided
 returns-in-Release-clause-decided c = rw c.in-Release.is (rw c.to_name.ensures at c.release.ensures.decided)
@@ -34,4 +34,4 @@ pub returns-in-Query-clause-passed : goal.returns-in-Query-clause-passed
 returns-in-Query-clause-passed c = rw c.in-Query.is (rw c.to_name-in-Query.ensures at (c.find.ensures.passed c.args.ip))
 
 pub returns-in_default-clause-passed : goal.returns-in_default-clause-passed
-returns-in_default-clause-passed c = others_pass (desk_of c.args.self.now c.args.standing.now.rows.now) c.args.standing.now.at c.args.ip _ c.in_default.not-Registration c.in_default.not-Overwrite c.in_default.not-Refresh c.in_default.not-Release c.in_default.not-Query
+returns-in_default-clause-passed c = others_pass (desk_at c.args.self.now c.args.standing.now) c.args.standing.now.at c.args.ip _ c.in_default.not-Registration c.in_default.not-Overwrite c.in_default.not-Refresh c.in_default.not-Release c.in_default.not-Query

@@ -1,14 +1,14 @@
 use Rattle.std.proofs.Common.{◌≡◌, false, rules}
 use Rattle.nbt_packet.specs.Message.{found}
-use Rattle.nbt_front.specs.Deciding.{desk_of, entries_of, finds}
+use Rattle.nbt_front.specs.Deciding.{desk_at, entries_of, finds}
 use Rattle.nbt_front.proofs.Rulings.{at_none, denied, leased_query_passes, query_passes}
 use Rattle.nbt_front.proofs.deciding.Front.find.Goals as goal
 
 pub returns-in_err-fixed-clause-passed : goal.returns-in_err-fixed-clause-passed
-returns-in_err-fixed-clause-passed c = λ ip. at_none c.from_residual.result (query_passes (desk_of c.args.self.now c.args.standing.now.rows.now) c.args.standing.now.at ip c.args.id c.args.name (rw (← c.self.view_is) c.in_err-fixed.ensures.none))
+returns-in_err-fixed-clause-passed c = λ ip. at_none c.from_residual.result (query_passes (desk_at c.args.self.now c.args.standing.now) c.args.standing.now.at ip c.args.id c.args.name (rw (← c.self.view_is) c.in_err-fixed.ensures.none))
 
 pub returns-then-has-clause-passed : goal.returns-then-has-clause-passed
-returns-then-has-clause-passed c = λ ip. leased_query_passes (desk_of c.args.self.now c.args.standing.now.rows.now) c.args.standing.now.at ip c.args.id c.args.name (c.has.ensures.0 c.if-has.true)
+returns-then-has-clause-passed c = λ ip. leased_query_passes (desk_at c.args.self.now c.args.standing.now) c.args.standing.now.at ip c.args.id c.args.name (c.has.ensures.0 c.if-has.true)
 
 pub returns-clause-decided : goal.returns-clause-decided
 returns-clause-decided c =

@@ -11,9 +11,10 @@ returns-in_default-decide-clause-does g c =
     let desk = c.self.inside.desk in
     let passed = rw c.as_slice.ensures.value at c.in_default-decide.ensures.passed in
     let front = rw c.decide.ensures.stays at c.hand_on.ensures.front in
+    let past = rw c.decide.ensures.stays at c.hand_on.ensures.past in
     let leaves = rw (c.decide.ensures.stays, c.as_slice-in_default-decide.ensures.value) at c.hand_on.ensures.left in
     rw (← c.self.view_is) (λ before did.
-    hands_other g.P.Port.does desk before c.self.inside.beneath c.args.from c.args.octets.now.items passed.0 c.in-Some.route c.in-Some.is did c.hand_on.new.self front passed.1 leaves)
+    hands_other g.P.Port.does desk before c.self.inside.beneath c.args.from c.args.octets.now.items passed.0 c.in-Some.route c.in-Some.is did c.hand_on.new.self front past passed.1 leaves)
 
 pub returns-in_err-send-clause-does : goal.returns-in_err-send-clause-does
 returns-in_err-send-clause-does g c =
