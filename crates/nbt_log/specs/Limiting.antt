@@ -1,28 +1,35 @@
--- At most ten lines of a kind in any second (our profile).
+-- At most so many lines of a kind in any second (our profile).
 use Rattle.std.specs.Prelude.{◌≡◌, ℕ, ◌+◌, ◌-◌, ◌^◌, ◌<◌, ◌≤◌, min, List, [], ◌∷◌, ◌++◌, length, drop, slice_index, Option, Some, None}
 use Rattle.nbt_lease.specs.Config.{milliseconds}
 use Rattle.nbt_log.specs.declared.entry.LineKind.{LineKind}
 use Rattle.nbt_log.specs.declared.entry.LineKind.TheVariants as kind
 
--- so many lines are printed in a second at most
+-- so many lines are printed in a second at most, where nothing else is said
 abbrev pub lines_most : ℕ
 lines_most = 10
 
--- the moments of the last lines, and how many were left out since
+-- so many times of lines are remembered at most
+abbrev pub times_most : ℕ
+times_most = 255
+
+-- How many lines are printed in a second at most, all where it is 0; the moments of so many lines that were the last; and how many
+-- were left out since.
 pub record LimiterValue : Type 0 where
+  pub most : ℕ
   pub told : List ℕ
   pub left_out : ℕ
 
 -- the line is the last one now, and none is left out since
-abbrev pub told_at : List ℕ → ℕ → LimiterValue
-told_at before now = record { told = before ++ now ∷ []; left_out = 0 }
+abbrev pub told_at : (most : ℕ) → List ℕ → ℕ → LimiterValue
+told_at most before now = record { most = most; told = before ++ now ∷ []; left_out = 0 }
 
--- A line is printed while there are fewer than ten, or where the tenth last is a second old; then the one before it is
--- forgotten. Else it is one more that is left out, of 2^64 - 1 at most.
+-- A line is printed where all are, while there are fewer than so many, or where the first of the last so many is a second old; then
+-- that one is forgotten. Else it is one more that is left out, of 2^64 - 1 at most.
 pub data Limits (old : LimiterValue) (now : ℕ) : Option ℕ → LimiterValue → Type 0 where
-  has_room : length old.told < lines_most → Limits old now (Some old.left_out) (told_at old.told now)
-  is_old : length old.told ≡ lines_most → slice_index old.told 0 + milliseconds 1 ≤ now → Limits old now (Some old.left_out) (told_at (drop 1 old.told) now)
-  leaves_out : length old.told ≡ lines_most → now < slice_index old.told 0 + milliseconds 1 → Limits old now None (record old { left_out = min (old.left_out + 1) (2 ^ 64 - 1) })
+  tells_all : old.most ≡ 0 → Limits old now (Some old.left_out) (record old { left_out = 0 })
+  has_room : length old.told < old.most → Limits old now (Some old.left_out) (told_at old.most old.told now)
+  is_old : 0 < old.most → old.most ≤ length old.told → slice_index old.told 0 + milliseconds 1 ≤ now → Limits old now (Some old.left_out) (told_at old.most (drop 1 old.told) now)
+  leaves_out : 0 < old.most → old.most ≤ length old.told → now < slice_index old.told 0 + milliseconds 1 → Limits old now None (record old { left_out = min (old.left_out + 1) (2 ^ 64 - 1) })
 
 -- ---- of each kind
 
@@ -39,11 +46,12 @@ pub record LimitersValue : Type 0 where
   pub broadcast : LimiterValue
 
 -- nothing was printed yet
-abbrev pub new_limiter : LimiterValue
-new_limiter = record { told = []; left_out = 0 }
+abbrev pub limiter_at : (most : ℕ) → LimiterValue
+limiter_at most = record { most = most; told = []; left_out = 0 }
 
-abbrev pub new_limiters : LimitersValue
-new_limiters = record { granted = new_limiter; renewed = new_limiter; refused = new_limiter; released = new_limiter; not_released = new_limiter; unanswered = new_limiter; foreign = new_limiter; malformed = new_limiter; broadcast = new_limiter }
+abbrev pub limiters_at : (most : ℕ) → LimitersValue
+limiters_at most = let one = limiter_at most in
+    record { granted = one; renewed = one; refused = one; released = one; not_released = one; unanswered = one; foreign = one; malformed = one; broadcast = one }
 
 abbrev pub limiter_of : LimitersValue → LineKind → LimiterValue
 limiter_of all kind.Granted = all.granted

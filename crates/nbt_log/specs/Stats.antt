@@ -86,7 +86,7 @@ times_text since silence written = metric_text (codes "start_time_seconds") gaug
     ++ seconds_metric (codes "silence_left_seconds") gauge (codes "How long the silence after the start lasts still.") silence
     ++ metric_text (codes "written_timestamp_seconds") gauge (codes "When these statistics were written, in seconds since 1970.") (([], written) ∷ [])
 
--- ---- how the devices are
+-- ---- how the devices are, and of which version the program is
 
 abbrev pub port_text : (failures lines_dropped : ℕ) → List ℕ
 port_text failures lines_dropped = metric_text (codes "port_failures_total") counter (codes "Calls of the port that failed.") (([], failures) ∷ [])
@@ -97,8 +97,11 @@ state_text health = metric_text (codes "barred_requests_total") counter (codes "
     ++ metric_text (codes "state_syncs_total") counter (codes "How often the state was made durable.") (([], health.syncs) ∷ [])
     ++ seconds_metric (codes "state_sync_seconds_total") counter (codes "How long it took to make the state durable, taken together.") health.sync_milliseconds
 
+abbrev pub build_text : List ℕ
+build_text = metric_text (codes "build_info") gauge (codes "Of which version the program is; its value is always 1.") ((codes "{version=\"0.1.0\"}", 1) ∷ [])
+
 abbrev pub devices_text : Health → (lines_dropped : ℕ) → List ℕ
-devices_text health lines_dropped = port_text health.failures lines_dropped ++ state_text health
+devices_text health lines_dropped = port_text health.failures lines_dropped ++ state_text health ++ build_text
 
 -- ---- all of it
 

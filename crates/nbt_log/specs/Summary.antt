@@ -4,13 +4,13 @@ use Rattle.std.specs.Fmt.{decimal}
 use Rattle.nbt_lease.specs.Config.{milliseconds}
 use Rattle.nbt_text.specs.Lines.{newline}
 use Rattle.nbt_log.specs.Dates.{IsTimeText}
-use Rattle.nbt_log.specs.Limiting.{lines_most, LimiterValue, LimitersValue, limiter_of, LimitsKind}
+use Rattle.nbt_log.specs.Limiting.{LimiterValue, LimitersValue, limiter_of, LimitsKind}
 use Rattle.nbt_log.specs.declared.entry.LineKind.{LineKind}
 use Rattle.nbt_log.specs.declared.entry.LineKind.TheVariants as kind
 
 -- A kind is due where lines of it were left out, and one may be printed.
 abbrev pub is_due : LimiterValue → (now : ℕ) → Bool
-is_due one now = nat_lt 0 one.left_out && (nat_lt (length one.told) lines_most || nat_le (slice_index one.told 0 + milliseconds 1) now)
+is_due one now = nat_lt 0 one.left_out && nat_lt 0 one.most && (nat_lt (length one.told) one.most || nat_le (slice_index one.told 0 + milliseconds 1) now)
 
 -- the kinds, in their order
 abbrev pub kinds : List LineKind

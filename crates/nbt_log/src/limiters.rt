@@ -1,7 +1,7 @@
 //! A limit for the lines of each kind.
 
 ghost use Rattle.std.specs.Prelude.{◌≡◌};
-ghost use Rattle.nbt_log.specs.Limiting.{LimitsKind, new_limiters};
+ghost use Rattle.nbt_log.specs.Limiting.{LimitsKind, limiters_at};
 ghost use Rattle.nbt_log.specs.Summary.{first_due, kinds};
 
 use crate::entry::LineKind;
@@ -9,7 +9,7 @@ use crate::limiter::Limiter;
 use nbt_lease::Moment;
 use std::marker::Model;
 
-/// Which lines may be printed: of each kind at most ten in any second. A contract sees what is remembered of each kind.
+/// Which lines may be printed: of each kind at most so many in any second, or all. A contract sees what is remembered of each kind.
 #[derive(Debug, Drop)]
 pub struct Limiters {
     granted: Limiter,
@@ -32,20 +32,20 @@ impl Model for Limiters {
 }
 
 impl Limiters {
-    /// No line was printed yet.
-    pub fn new() -> Limiters
-        ensures { result ≡ new_limiters }
+    /// No line was printed yet, and of each kind at most so many may be in any second; all may be where it is 0.
+    pub fn new(most: u8) -> Limiters
+        ensures { result ≡ limiters_at most }
     {
         Limiters {
-            granted: Limiter::new(),
-            renewed: Limiter::new(),
-            refused: Limiter::new(),
-            released: Limiter::new(),
-            not_released: Limiter::new(),
-            unanswered: Limiter::new(),
-            foreign: Limiter::new(),
-            malformed: Limiter::new(),
-            broadcast: Limiter::new(),
+            granted: Limiter::of(most),
+            renewed: Limiter::of(most),
+            refused: Limiter::of(most),
+            released: Limiter::of(most),
+            not_released: Limiter::of(most),
+            unanswered: Limiter::of(most),
+            foreign: Limiter::of(most),
+            malformed: Limiter::of(most),
+            broadcast: Limiter::of(most),
         }
     }
 

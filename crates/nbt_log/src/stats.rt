@@ -2,7 +2,7 @@
 
 ghost use Rattle.std.specs.Prelude.{◌≡◌, ◌++◌, OnOk};
 ghost use Rattle.std.specs.String.{string_bytes};
-ghost use Rattle.nbt_log.specs.Stats.{requests_text, unanswered_text, strangers_text, refusals_text, own_text, leases_text, times_left_text, times_text, port_text, state_text, counters_text, gauges_text, devices_text, stats_text};
+ghost use Rattle.nbt_log.specs.Stats.{requests_text, unanswered_text, strangers_text, refusals_text, own_text, leases_text, times_left_text, times_text, port_text, state_text, build_text, counters_text, gauges_text, devices_text, stats_text};
 
 use crate::gauges::Gauges;
 use crate::health::Health;
@@ -13,6 +13,9 @@ use std::alloc::AllocError;
 
 /// The first line of the statistics, with its end, which says what a file is (our profile). Prometheus passes it over.
 pub const STATS_HEAD: &str = "# statistics of nbt nbns\n";
+
+/// Of which version the program is, as a label.
+const VERSION: &str = "{version=\"0.1.0\"}";
 
 /// What the statistics of a name server say.
 #[derive(Clone, Copy, Debug, PartialEq, Eq)]
@@ -219,12 +222,13 @@ fn write_times(since: u64, silence: u64, written: u64, out: &mut String) -> Resu
     )
 }
 
-/// Appends how the port, the log and the files are.
+/// Appends how the port, the log and the files are, and of which version the program is.
 fn write_devices(health: &Health, lines_dropped: u64, out: &mut String) -> Result<(), AllocError>
     ensures { OnOk result (string_bytes out.new ≡ string_bytes out.old ++ devices_text health.now lines_dropped) }
 {
     write_port(health.failures, lines_dropped, out)?;
-    write_state(health, out)
+    write_state(health, out)?;
+    write_build(out)
 }
 
 fn write_port(failures: u64, lines_dropped: u64, out: &mut String) -> Result<(), AllocError>
@@ -268,6 +272,18 @@ fn write_state(health: &Health, out: &mut String) -> Result<(), AllocError>
         COUNTER,
         "How long it took to make the state durable, taken together.",
         health.sync_milliseconds,
+        out,
+    )
+}
+
+fn write_build(out: &mut String) -> Result<(), AllocError>
+    ensures { OnOk result (string_bytes out.new ≡ string_bytes out.old ++ build_text) }
+{
+    write_metric(
+        "build_info",
+        GAUGE,
+        "Of which version the program is; its value is always 1.",
+        &[(VERSION, 1)],
         out,
     )
 }
