@@ -63,6 +63,7 @@ complete -c nbt -n '__nbt_takes longest nbns host' -l longest -x -d 'The longest
 complete -c nbt -n '__nbt_takes for nbns host' -l for -x -d 'End after this time'
 complete -c nbt -n '__nbt_takes log nbns' -l log -d 'Print a line per grant, renewal, refusal and release'
 complete -c nbt -n '__nbt_takes log-broadcasts nbns' -l log-broadcasts -d 'Print broadcasts of B nodes too'
+complete -c nbt -n '__nbt_takes log-rate nbns' -l log-rate -x -d 'How many lines of a kind the log has in a second'
 complete -c nbt -n '__nbt_takes leases nbns' -l leases -r -F -d 'Keep the list of live leases in a file'
 complete -c nbt -n '__nbt_takes hosts nbns' -l hosts -r -F -d 'Keep the hosts in a file'
 complete -c nbt -n '__nbt_takes stats nbns' -l stats -r -F -d 'Keep statistics in a file'

@@ -28,7 +28,7 @@ HELP, VALUE = r"# HELP nbt_nbns_[a-z_]+ [ -~]+|# TYPE nbt_nbns_[a-z_]+ (?:counte
 FORMS = {
     "leases": ("# live leases of nbt nbns", rf"{NAME} {KIND} ADDRESS {TIME}"),
     "hosts": ("# hosts of nbt nbns", r"ADDRESS [A-Za-z0-9](?:[A-Za-z0-9-]*[A-Za-z0-9])?"),
-    "stats": ("# statistics of nbt nbns", rf'{HELP}|nbt_nbns_[a-z_]+(?:\{{[a-z]+="[a-z_]+"(?:,[a-z]+="[a-z_]+")*\}})? {VALUE}'),
+    "stats": ("# statistics of nbt nbns", rf'{HELP}|nbt_nbns_[a-z_]+(?:\{{[a-z]+="[a-z0-9._]+"(?:,[a-z]+="[a-z_]+")*\}})? {VALUE}'),
 }
 
 FIXED = ("PRINTER", "PRINTERS")

@@ -16,7 +16,7 @@ use Rattle.std.specs.Result.{MatchResult}
 use Rattle.nbt_admin.specs.Failures.{Reports, IsBad, out_of_memory}
 use Rattle.nbt_admin.specs.Reading.{Reads, Where, Then, Each, Fits, Gives, Makes, IfGiven}
 use Rattle.nbt_admin.specs.Texts.{ReadsHere}
-use Rattle.nbt_admin.specs.Times.{ReadsConfig, ReadsTime, NeedsFit, ReadsChanges, ReadsUpTo, client_changes, client_rows}
+use Rattle.nbt_admin.specs.Times.{ReadsConfig, ReadsTime, NeedsFit, ReadsChanges, ReadsLogRate, ReadsUpTo, client_changes, client_rows, log_rate}
 use Rattle.nbt_admin.specs.declared.failure.ArgumentFault.{ArgumentFault}
 use Rattle.nbt_admin.specs.declared.failure.ArgumentFault.TheVariants as w
 use Rattle.nbt_admin.specs.declared.failure.Failure.{Failure}
@@ -111,6 +111,7 @@ ReadsNbns texts allowed = Then (ReadsConfig texts.life.now texts.longest.now) (�
     Then (NeedsFree texts) (λ _.
     Then (IfGiven (ReadsUpTo rows_most w.ClientRows) texts.rows_per_client) (λ rows.
     Then (IfGiven ReadsChanges texts.changes_per_client) (λ changes.
+    Then (IfGiven ReadsLogRate texts.log_rate) (λ rate.
     Gives (record {
       nbns = record {
         bind = bind;
@@ -118,6 +119,7 @@ ReadsNbns texts allowed = Then (ReadsConfig texts.life.now texts.longest.now) (�
         time = time;
         log = texts.log;
         broadcasts = texts.broadcasts;
+        log_rate = unwrap_or rate log_rate;
         leases = files.leases;
         hosts = files.hosts;
         stats = files.stats;
@@ -127,7 +129,7 @@ ReadsNbns texts allowed = Then (ReadsConfig texts.life.now texts.longest.now) (�
         front = record { allowed = allowed; fixed = []; longest = config.longest };
       };
       state = state;
-    }))))))))))
+    })))))))))))
 
 -- the file of networks has a path, and that of fixed names
 abbrev pub NeedsPaths : NbnsTexts → Result Unit Failure → Type 0

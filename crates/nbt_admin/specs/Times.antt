@@ -82,3 +82,13 @@ ReadsChanges text = Reads (SpellsWithin 0 1000000 text) (Reports text w.ClientCh
 -- without a text
 abbrev pub client_changes : ℕ
 client_changes = 20
+
+-- ---- how many lines of a kind a log has in a second at most
+
+-- a number, 0 for any
+abbrev pub ReadsLogRate : List ℕ → Result ℕ Failure → Type 0
+ReadsLogRate text = Reads (SpellsWithin 0 255 text) (Reports text w.LogRate)
+
+-- without a text
+abbrev pub log_rate : ℕ
+log_rate = 10

@@ -7,7 +7,7 @@ use crate::letters::how_to_write;
 use crate::other_lists::OtherList;
 use crate::reason::why_no_address;
 use crate::scanning::{PORT_MOST, RATE_MOST};
-use crate::timing::CHANGES_MOST;
+use crate::timing::{CHANGES_MOST, LOG_RATE_MOST};
 use nbt_args::{LimitedArgument, Refusal, Text};
 use nbt_front::{LineFault, NetworksFault};
 use nbt_lease::{Config, LIFE_MOST, LONGEST_MOST, ROWS_MOST};
@@ -72,6 +72,8 @@ pub enum ArgumentFault {
     ClientRows,
     /// Not a number of changes of a client in a second.
     ClientChanges,
+    /// Not a number of lines of a kind in a second.
+    LogRate,
     /// Not a network.
     Network,
     /// No network, range or address.
@@ -118,6 +120,7 @@ impl ArgumentFault {
             ArgumentFault::NoFixed => "fixed names",
             ArgumentFault::ClientRows => "rows per client",
             ArgumentFault::ClientChanges => "changes per client",
+            ArgumentFault::LogRate => "log rate",
             ArgumentFault::Network => "network",
             ArgumentFault::Addresses | ArgumentFault::NotEachOne => "address",
             ArgumentFault::Bits => "network",
@@ -171,6 +174,10 @@ impl fmt::Display for ArgumentFault {
             }
             ArgumentFault::ClientChanges => {
                 let most = CHANGES_MOST;
+                write!(f, "not a whole number from 0 to {most}")
+            }
+            ArgumentFault::LogRate => {
+                let most = LOG_RATE_MOST;
                 write!(f, "not a whole number from 0 to {most}")
             }
             ArgumentFault::Network => f.write_str(

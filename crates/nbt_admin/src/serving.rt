@@ -8,7 +8,7 @@ use crate::binding::bind_of;
 use crate::failure::{ArgumentFault, Failure};
 use crate::fronting::Networks;
 use crate::reading::read_each;
-use crate::timing::{client_changes_of, client_rows_of, config_of, ending_of, fit};
+use crate::timing::{client_changes_of, client_rows_of, config_of, ending_of, fit, log_rate_of};
 use nbt_args::NbnsTexts;
 use nbt_front::{FixedNames, Front, Network};
 use nbt_nbns::{NbnsArguments, ServerArguments, StateFolder};
@@ -19,6 +19,9 @@ const CLIENT_ROWS: u32 = 64;
 
 /// How many changes a client may make in a second, without an argument (our profile).
 const CLIENT_CHANGES: u32 = 20;
+
+/// How many lines of a kind a log has in a second at most, without an argument (our profile).
+const LOG_RATE: u8 = 10;
 
 /// Reads the arguments of `nbns`. Refused, in this order: the first text that is no network, an empty path of the file of networks, and of that of fixed names, and then
 /// as [`nbns_arguments`] has it. No name is fixed yet.
@@ -41,7 +44,7 @@ fn expect_paths(alloc: Global, texts: &NbnsTexts<'_>) -> Result<(), Failure>
 
 /// Reads all of them but the networks, which these are. Refused, in this order: the life, the longest lease, the time, a longest lease that is
 /// too short for a network, the addresses, the folder of the state, the files as [`files_of`] has them, one that the state has for itself,
-/// the leases of a client, and its changes in a second.
+/// the leases of a client, its changes in a second, and the lines of a log in a second.
 fn nbns_arguments(
     alloc: Global,
     texts: &NbnsTexts<'_>,
@@ -58,8 +61,10 @@ fn nbns_arguments(
     expect_beside(alloc, texts)?;
     let rows = client_rows_of(alloc, texts.rows_per_client)?;
     let changes = client_changes_of(alloc, texts.changes_per_client)?;
+    let rate = log_rate_of(alloc, texts.log_rate)?;
     let rows_per_client = rows.unwrap_or(CLIENT_ROWS);
     let changes_per_client = changes.unwrap_or(CLIENT_CHANGES);
+    let log_rate = rate.unwrap_or(LOG_RATE);
     Ok(ServerArguments {
         nbns: NbnsArguments {
             bind,
@@ -67,6 +72,7 @@ fn nbns_arguments(
             time,
             log: texts.log,
             broadcasts: texts.broadcasts,
+            log_rate,
             leases: files.leases,
             hosts: files.hosts,
             stats: files.stats,

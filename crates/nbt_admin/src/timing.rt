@@ -3,7 +3,7 @@
 ghost use Rattle.std.specs.Prelude.{◌≡◌, ◌<◌, ◌^◌, ℕ, IsSome, IfSome, IfNone};
 ghost use Rattle.nbt_lease.specs.Config.{IsLongest, milliseconds, rows_most};
 ghost use Rattle.nbt_admin.specs.Reading.{IfGiven};
-ghost use Rattle.nbt_admin.specs.Times.{SpellsLongest, ReadsChanges, ReadsConfig, NeedsFit, ReadsTime, ReadsUpTo};
+ghost use Rattle.nbt_admin.specs.Times.{SpellsLongest, ReadsChanges, ReadsConfig, ReadsLogRate, NeedsFit, ReadsTime, ReadsUpTo};
 ghost use Rattle.nbt_admin.specs.declared.failure.ArgumentFault.TheVariants.{ClientRows};
 
 use crate::failure::{ArgumentFault, Complaint, Failure};
@@ -14,6 +14,9 @@ use std::alloc::Global;
 
 /// How many changes of a client in a second may be allowed at most (our profile).
 pub const CHANGES_MOST: u32 = 1_000_000;
+
+/// How many lines of a kind a log may have in a second at most, where not all may be (our profile).
+pub const LOG_RATE_MOST: u8 = 255;
 
 /// The milliseconds of a second.
 const SECOND: u64 = 1_000;
@@ -90,6 +93,25 @@ fn changes_of(alloc: Global, text: &str) -> Result<u32, Failure>
     match number_within(text, 0, u64::from(CHANGES_MOST)) {
         Some(number) => Ok(number as u32),
         None => Err(Failure::of_argument(alloc, text, ArgumentFault::ClientChanges)),
+    }
+}
+
+/// Reads how many lines of a kind a log has in a second at most: a whole number from 0 to 255; `None` without a text.
+pub fn log_rate_of(alloc: Global, text: Option<&str>) -> Result<Option<u8>, Failure>
+    ensures { IfGiven ReadsLogRate text.entry result }
+{
+    match text {
+        Some(text) => Ok(Some(rate_of(alloc, text)?)),
+        None => Ok(None),
+    }
+}
+
+fn rate_of(alloc: Global, text: &str) -> Result<u8, Failure>
+    ensures { ReadsLogRate text.now result }
+{
+    match number_within(text, 0, u64::from(LOG_RATE_MOST)) {
+        Some(number) => Ok(number as u8),
+        None => Err(Failure::of_argument(alloc, text, ArgumentFault::LogRate)),
     }
 }
 

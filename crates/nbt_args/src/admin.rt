@@ -184,6 +184,9 @@ Exit status:
 /// The option that keeps the leases of a name server.
 const STATE: &str = "state";
 
+/// The option that prints what a name server does.
+const LOG: &str = "log";
+
 pub static NBNS: Description = Description {
     name: "nbns",
     about: "Runs a name server",
@@ -198,7 +201,7 @@ pub static NBNS: Description = Description {
         LONGEST,
         FOR,
         Argument {
-            name: "log",
+            name: LOG,
             form: Form::Flag,
             presence: Presence::Optional,
             help: "Prints a line for each grant, renewal, refusal and release, and for a packet without a reply",
@@ -208,6 +211,12 @@ pub static NBNS: Description = Description {
             form: Form::Flag,
             presence: Presence::Optional,
             help: "Prints a line for each broadcast of a B node too; has no effect without --log and --bind 0.0.0.0",
+        },
+        Argument {
+            name: "log-rate",
+            form: Form::Option("N"),
+            presence: Presence::With(LOG),
+            help: "With --log, how many lines of a kind it prints in a second: from 1 to 255, 0 for all; without it, 10",
         },
         Argument {
             name: "leases",
@@ -299,7 +308,7 @@ status 3 if FOLDER is moved or replaced.
 It prints how a server would begin that started now, as `would serve, with 17 leases kept`, or on standard error the first fault, with
 the status of a start. Whether an address is free, whether a file can be made in FOLDER, and whether a FILE can be written to, isn't
 tried. The status is 6 if another server uses FOLDER: the line then says what a start would do if that one ended now. --bind, --for,
---log, --log-broadcasts, --strict, --rows-per-client and --allow have no effect then.
+--log, --log-broadcasts, --log-rate, --strict, --rows-per-client and --allow have no effect then.
 
 A reply leaves from the address at which its request came. Without --bind it serves every IPv4 address of the machine at port 137,
 by a socket for each: standard error says when one comes or goes. --bind 0.0.0.0 is one socket for all, which hears broadcasts too,
@@ -311,9 +320,9 @@ before it can be refreshed. If it is above an hour, and without --state, standar
 
 --log prints lines as `2026-11-24T09:12:03Z granted FILER#20 192.0.2.7 unique 300 s`; `renewed`, `refused` with the sender and
 the reason, `released`, `unanswered` for a request during the silence, and `malformed` or `foreign` for a packet that is no
-request: of each kind at most ten per second. --leases writes the list of live leases to FILE.new and renames that to FILE, when
-it has changed and at most once per second: a first line that says what it is, and one line per lease, as `FILER#20 unique
-192.0.2.7 2026-11-24T09:17:03Z`, with the time of its expiry.
+request: of each kind at most ten per second, or as many as --log-rate says. --leases writes the list of live leases to FILE.new and
+renames that to FILE, when it has changed and at most once per second: a first line that says what it is, and one line per lease, as
+`FILER#20 unique 192.0.2.7 2026-11-24T09:17:03Z`, with the time of its expiry.
 
 --hosts keeps a FILE likewise, with one line per live lease of a file server, as `192.0.2.7 FILER`: of a unique name of suffix 20,
 without a scope, of letters, digits and inner hyphens. A name with a small letter is left out while another has its letters in

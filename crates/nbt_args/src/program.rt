@@ -33,7 +33,8 @@ Exit status:
   2  wrong usage, which standard output explains, or an invalid argument of a command for people, which standard error explains
   3  a port, a clock, a socket, a file, the input or the output failed; prints `device` where it can
   4  out of memory; prints `memory`
-  5  of `lookup` and `status`: no reply; of `host`: a name wasn't held at the end";
+  5  of `lookup` and `status`: no reply; of `host`: a name wasn't held at the end
+  6  of `nbns`: another server uses the folder of --state";
 
 /// Makes the program with its commands, in the order of the help.
 pub fn program<'a>(alloc: Global) -> Result<Command<'a>, AllocError> {

@@ -112,6 +112,8 @@ pub struct NbnsTexts<'a> {
     pub log: bool,
     /// Whether the log has broadcasts too.
     pub broadcasts: bool,
+    /// How many lines of a kind the log has in a second at most; `None` for the default.
+    pub log_rate: Option<&'a str>,
     /// The path of the list of leases, if any.
     pub leases: Option<&'a str>,
     /// The path of the hosts, if any.
@@ -300,6 +302,7 @@ fn nbns_texts<'a>(alloc: Global, matches: &ArgMatches<'a>) -> Result<NbnsTexts<'
     ensures time { IfOk result (λ texts. option_map (λ text. text.now) texts.time ≡ value_of matches.now (codes "for")) }
     ensures logs { IfOk result (λ texts. Tells matches.now (codes "log") texts.log) }
     ensures broadcasts { IfOk result (λ texts. Tells matches.now (codes "log-broadcasts") texts.broadcasts) }
+    ensures log_rate { IfOk result (λ texts. option_map (λ text. text.now) texts.log_rate ≡ value_of matches.now (codes "log-rate")) }
     ensures leases { IfOk result (λ texts. option_map (λ text. text.now) texts.leases ≡ value_of matches.now (codes "leases")) }
     ensures hosts { IfOk result (λ texts. option_map (λ text. text.now) texts.hosts ≡ value_of matches.now (codes "hosts")) }
     ensures stats { IfOk result (λ texts. option_map (λ text. text.now) texts.stats ≡ value_of matches.now (codes "stats")) }
@@ -322,6 +325,7 @@ fn nbns_texts<'a>(alloc: Global, matches: &ArgMatches<'a>) -> Result<NbnsTexts<'
         time: matches.get_str("for"),
         log: matches.get_flag("log"),
         broadcasts: matches.get_flag("log-broadcasts"),
+        log_rate: matches.get_str("log-rate"),
         leases: matches.get_str("leases"),
         hosts: matches.get_str("hosts"),
         stats: matches.get_str("stats"),

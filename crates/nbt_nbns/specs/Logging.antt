@@ -2,7 +2,7 @@
 use Rattle.std.specs.Prelude.{◌≡◌, ℕ, Bool, List, [], Option, Some, None}
 use Rattle.nbt_log.specs.Dates.{second_at}
 use Rattle.nbt_log.specs.Kinds.{told_kind}
-use Rattle.nbt_log.specs.Limiting.{LimitersValue, LimitsKind, new_limiters}
+use Rattle.nbt_log.specs.Limiting.{LimitersValue, LimitsKind, limiters_at}
 use Rattle.nbt_log.specs.Lines.{IsLine}
 use Rattle.nbt_log.specs.Summary.{SumsUp}
 use Rattle.nbt_log.specs.declared.dates.Dates.{Dates}
@@ -16,8 +16,8 @@ pub record LoggerValue : Type 0 where
   pub limiters : LimitersValue
   pub outbox : OutboxValue
 
-abbrev pub new_logger : (broadcasts : Bool) → LoggerValue
-new_logger broadcasts = record { broadcasts = broadcasts; limiters = new_limiters; outbox = new_outbox }
+abbrev pub new_logger : (broadcasts : Bool) → (most : ℕ) → LoggerValue
+new_logger broadcasts most = record { broadcasts = broadcasts; limiters = limiters_at most; outbox = new_outbox }
 
 -- A turn in which nothing was done, and what has no kind, have no line; then those that were left out before are summed up. Every
 -- other line is printed as the limit of its kind allows, with the count of those that were left out.

@@ -52,8 +52,8 @@ abbrev pub PortFailures : Fronted PortsValue → ℕ
 PortFailures fronted = fronted.port.failures
 
 -- a log in which no line was printed yet, if there is to be one
-abbrev pub log_of : (log broadcasts : Bool) → Option LoggerValue
-log_of log broadcasts = if log then Some (new_logger broadcasts) else None
+abbrev pub log_of : (log broadcasts : Bool) → (most : ℕ) → Option LoggerValue
+log_of log broadcasts most = if log then Some (new_logger broadcasts most) else None
 
 -- what was not kept yet in the file of this path, if there is to be one
 abbrev pub keeper_of : {A : Type 0} → Content → Option (String A) → Option (KeeperValue FileValue)
@@ -69,7 +69,7 @@ abbrev pub new_journal : {D : Type 0} → NbnsArguments → Dates → (day : D) 
 new_journal a dates day start = record {
   dates = dates;
   day = day;
-  log = log_of a.log a.broadcasts;
+  log = log_of a.log a.broadcasts a.log_rate;
   leases = keeper_of content.Leases a.leases;
   hosts = keeper_of content.Hosts a.hosts;
   fixed = capitals_of a.front.fixed;

@@ -17,6 +17,8 @@ pub struct NbnsArguments {
     pub log: bool,
     /// Whether the log has the broadcasts of B nodes too.
     pub broadcasts: bool,
+    /// How many lines of a kind the log has in a second at most; 0 for any number.
+    pub log_rate: u8,
     /// The path of the file that has the list of its live leases, if there is to be one.
     pub leases: Option<String>,
     /// The path of the file that has its hosts, if there is to be one.

@@ -13,7 +13,7 @@ use std::io;
 use std::io::Write;
 use std::marker::Model;
 
-/// Prints a line for what a server did with each datagram, of each kind at most ten in any second. A contract sees which of those
+/// Prints a line for what a server did with each datagram, of each kind at most so many in any second, or all. A contract sees which of those
 /// may be printed, whether broadcasts are, and what waits for the reader of the log.
 #[derive(Drop)]
 pub struct Logger {
@@ -33,14 +33,15 @@ impl Model for Logger {
 }
 
 impl Logger {
-    /// Nothing is printed yet. Broadcasts of B nodes are printed where that is wanted.
-    pub fn new(alloc: Global, broadcasts: bool) -> Logger
-        ensures { result ≡ new_logger broadcasts }
+    /// Nothing is printed yet. Broadcasts of B nodes are printed where that is wanted, and at most so many lines of each kind in any
+    /// second; all where it is 0.
+    pub fn new(alloc: Global, broadcasts: bool, most: u8) -> Logger
+        ensures { result ≡ new_logger broadcasts most }
     {
         Logger {
             line: String::new(alloc),
             broadcasts,
-            limiters: Limiters::new(),
+            limiters: Limiters::new(most),
             outbox: Outbox::new(alloc),
             complaint: Complaint::new(),
         }

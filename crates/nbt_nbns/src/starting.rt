@@ -160,7 +160,12 @@ pub fn journal_of<'a, M: Files, D: Drop, E: Write>(
     Ok(Journal {
         dates,
         day,
-        log: log_of(alloc, arguments.log, arguments.broadcasts),
+        log: log_of(
+            alloc,
+            arguments.log,
+            arguments.broadcasts,
+            arguments.log_rate,
+        ),
         leases,
         hosts,
         fixed: arguments.front.fixed().capitals(alloc)?,
@@ -171,11 +176,11 @@ pub fn journal_of<'a, M: Files, D: Drop, E: Write>(
 }
 
 /// The log, if there is to be one.
-fn log_of(alloc: Global, is_wanted: bool, broadcasts: bool) -> Option<Logger>
-    ensures { result ≡ log_of is_wanted broadcasts }
+fn log_of(alloc: Global, is_wanted: bool, broadcasts: bool, most: u8) -> Option<Logger>
+    ensures { result ≡ log_of is_wanted broadcasts most }
 {
     if is_wanted {
-        Some(Logger::new(alloc, broadcasts))
+        Some(Logger::new(alloc, broadcasts, most))
     } else {
         None
     }

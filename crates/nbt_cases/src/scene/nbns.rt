@@ -27,6 +27,9 @@ const SECOND: u64 = 1_000;
 /// How many live leases a client may have, without an argument.
 const CLIENT_ROWS: u32 = 64;
 
+/// How many lines of a kind a log has in a second at most, without an argument.
+const LOG_RATE: u8 = 10;
+
 /// What sees the turns of a server of a scene.
 type SceneJournal<'s, 'a> = Journal<Day<'s, 'a>, ScenePlace<'s, 'a>>;
 
@@ -172,9 +175,17 @@ fn journal_of<'s, 'a>(
 
 fn log_of(alloc: Global, texts: &NbnsTexts<'_>) -> Option<Logger> {
     if texts.log {
-        Some(Logger::new(alloc, texts.broadcasts))
+        Some(Logger::new(alloc, texts.broadcasts, log_rate_of(texts)))
     } else {
         None
+    }
+}
+
+/// How many lines of a kind a log has in a second at most.
+fn log_rate_of(texts: &NbnsTexts<'_>) -> u8 {
+    match texts.log_rate {
+        Some(text) => text.parse().ok().unwrap_or(LOG_RATE),
+        None => LOG_RATE,
     }
 }
 

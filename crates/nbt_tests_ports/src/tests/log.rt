@@ -97,12 +97,12 @@ fn counts_go_on_and_never_wrap(rt: HostRuntime) {
     expect_eq(&rt, &tally, &tally_of(u64::MAX));
 }
 
-/// What the statistics of a server with a state end with: 302 syncs, which took 303,456 ms.
+/// What the statistics of a server with a state end with: 302 syncs, which took 303,456 ms, and the version.
 const SYNCS: &str =
-    "nbt_nbns_state_syncs_total 302\n# HELP nbt_nbns_state_sync_seconds_total How long it took to make the state durable, taken together.\n# TYPE nbt_nbns_state_sync_seconds_total counter\nnbt_nbns_state_sync_seconds_total 303.456\n";
+    "nbt_nbns_state_syncs_total 302\n# HELP nbt_nbns_state_sync_seconds_total How long it took to make the state durable, taken together.\n# TYPE nbt_nbns_state_sync_seconds_total counter\nnbt_nbns_state_sync_seconds_total 303.456\n# HELP nbt_nbns_build_info Of which version the program is; its value is always 1.\n# TYPE nbt_nbns_build_info gauge\nnbt_nbns_build_info{version=\"0.1.0\"} 1\n";
 
 #[test]
-fn statistics_end_with_the_syncs_of_a_state(rt: HostRuntime) {
+fn statistics_end_with_the_syncs_of_a_state_and_the_version(rt: HostRuntime) {
     let figures = Figures {
         tally: tally_of(0),
         health: Health {

@@ -159,6 +159,7 @@ fn arguments<R: Abort + AllocGlobal>(rt: &R, port: u16, strict: bool) -> NbnsArg
         time: Some(0),
         log: true,
         broadcasts: false,
+        log_rate: 10,
         leases: None,
         hosts: None,
         stats: None,

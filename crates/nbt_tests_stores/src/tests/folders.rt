@@ -422,6 +422,7 @@ fn arguments<R: Abort + AllocGlobal>(rt: &R, folder: &str) -> ServerArguments {
             time: Some(0),
             log: false,
             broadcasts: false,
+            log_rate: 10,
             leases: None,
             hosts: None,
             stats: None,

@@ -618,6 +618,7 @@ pub(super) fn arguments<R: Abort + AllocGlobal>(rt: &R, folder: Option<&str>) ->
             time: Some(2_500),
             log: false,
             broadcasts: false,
+            log_rate: 10,
             leases: None,
             hosts: None,
             stats: None,

@@ -4,7 +4,7 @@
 use super::expect::{expect, expect_eq, expect_eq_in, expect_in};
 use super::folders::{header, path_for, path_in, row, text_in};
 use super::following::{Swap, machine_swapping};
-use nbt_nbns::FolderStore;
+use nbt_nbns::{Content, FilePlace, FolderStore, Place};
 use nbt_store::{Broken, Change, Store, SystemDisk};
 use std::fs::{File, Permissions};
 use std::os::unix::fs::{PermissionsExt, symlink};
@@ -182,6 +182,67 @@ fn a_lock_that_becomes_a_link_before_it_is_opened(rt: HostRuntime) {
     expect_text(&rt, folder, "other", Some(""));
     expect_eq(&rt, &mode_of(&rt, folder, "other"), &0o644);
     fs::remove_dir_all(&rt, folder).expect(&rt, "removed");
+}
+
+/// Puts a file into a new folder, and a link to it, which is to take the place of the file `new`. Returns its path, and that place's.
+fn put_link<R: Abort + AllocGlobal + Files>(rt: &R, folder: &str, new: &str) -> (String, String) {
+    fs::create_dir(rt, folder).expect(rt, "a folder");
+    put(rt, folder, "other", OTHERS, 0o644);
+    let link = path_in(rt, folder, "link");
+    symlink(rt, "other", link.as_str()).expect(rt, "a link");
+    (link, path_in(rt, folder, new))
+}
+
+/// A new file wasn't made, since there is one, and what a link leads to that is there stays as it is.
+fn expect_not_made<R: Abort + AllocGlobal + Files>(
+    rt: &R,
+    folder: &str,
+    ended: io::Result<()>,
+    kept: &str,
+) {
+    let kind = ended.err().map(|error| error.kind());
+    expect_eq(rt, &kind, &Some(io::ErrorKind::AlreadyExists));
+    expect_text(rt, folder, "other", Some(OTHERS));
+    expect_text(rt, folder, kept, None);
+    fs::remove_dir_all(rt, folder).expect(rt, "removed");
+}
+
+/// A link that comes just before a new file of leases is made isn't followed.
+#[test]
+fn a_link_in_the_place_of_a_new_file_of_leases(rt: HostRuntime) {
+    let folder = path_for(&rt, "leases-link").expect(&rt, "a path");
+    let (link, new) = put_link(&rt, folder.as_str(), "leases.new");
+    let swap = Swap {
+        path: new.as_str(),
+        by: link.as_str(),
+        before: true,
+    };
+    let machine = machine_swapping(&rt, swap);
+    let disk = SystemDisk::open_folder(&machine, rt.alloc(), folder.as_str()).expect(
+        &rt,
+        "open folder",
+    );
+    let ended = FolderStore::open(disk, rt.alloc(), &header(&rt), &[row(&rt)]).map(|_| ());
+    expect_not_made(&rt, folder.as_str(), ended, "leases");
+}
+
+/// Neither is one that comes just before a new list is made.
+#[test]
+fn a_link_in_the_place_of_a_new_list(rt: HostRuntime) {
+    let folder = path_for(&rt, "list-link").expect(&rt, "a path");
+    let (link, new) = put_link(&rt, folder.as_str(), "list.new");
+    let swap = Swap {
+        path: new.as_str(),
+        by: link.as_str(),
+        before: true,
+    };
+    let machine = machine_swapping(&rt, swap);
+    let path = path_in(&rt, folder.as_str(), "list");
+    let mut place = FilePlace::new(&machine, rt.alloc(), Content::Leases, path.as_str()).expect(
+        &rt, "a place",
+    );
+    let ended = place.replace("# live leases of nbt nbns\n");
+    expect_not_made(&rt, folder.as_str(), ended, "list");
 }
 
 /// What becomes of a folder whose store is open.
