@@ -11,7 +11,6 @@ use Rattle.nbt_store.specs.declared.fault.ReadFault.{ReadFault}
 use Rattle.nbt_store.specs.declared.form.Form.{Form}
 use Rattle.nbt_store.specs.declared.header.Header.{Header}
 use Rattle.nbt_store.specs.declared.silence.Onward.{Onward}
-use Rattle.nbt_store.specs.declared.silence.Silence.{Silence}
 use Rattle.nbt_store.specs.declared.times.Times.{Times}
 use Rattle.nbt_store.specs.Resuming.{IsRecent, IsRefusal, ResumesOn, GoesOnWith, ResumesAs, later_rows, goes_on, too_many, none_that_stand, by_clock, no_file, with_file}
 use Rattle.nbt_store.specs.declared.resuming.Decided.{Decided}

@@ -1,5 +1,5 @@
 -- The lines of a file that have their end: what a cut, a line more and a reading line by line make of them.
-use Rattle.std.proofs.Common.{◌≡◌, ◌∙◌, ℕ, zero, suc, ◌+◌, ◌-◌, ◌^◌, ◌<◌, ◌≤◌, ◌==◌, List, [], ◌∷◌, ◌++◌, length, take, inl, inr, ap, sym, subst, refl, append_assoc, append-nil, arith, lit<}
+use Rattle.std.proofs.Common.{◌≡◌, ◌∙◌, ℕ, zero, suc, ◌+◌, ◌-◌, ◌<◌, ◌≤◌, ◌==◌, List, [], ◌∷◌, ◌++◌, length, take, inl, inr, ap, sym, subst, refl, append_assoc, append-nil, arith, lit<}
 use Rattle.std.proofs.lemmas.Bool.{cases_Bool, ne_eqb, cond-true, cond-false}
 use Rattle.std.proofs.lemmas.List.{length-append, length-take, take_all, take-append-le}
 use Rattle.nbt_text.specs.Lines.{line_feed, newline, one_line, HasNo}
@@ -17,7 +17,7 @@ use Rattle.nbt_store.specs.Forms.{version}
 use Rattle.nbt_store.specs.Lines.{in_front, whole_lines, IsLine, IsClosed, AreRecords, AreBefore, AllStand, StandsIn, IsNone, HaveLines, IsFile, IsHead, HasFault, bad_record, no_lease, cut_off, line_number}
 use Rattle.nbt_store.specs.Times.{first_times, times_after, times_after_all}
 use Rattle.nbt_store.proofs.Seals.{same_body}
-use Rattle.std.specs.Prelude.{min, ◌⊎◌}
+use Rattle.std.specs.Prelude.{◌⊎◌}
 use Rattle.std.specs.List.{IsDistinct}
 use Rattle.std.specs.Map.{keys_of}
 use Rattle.nbt_name.specs.Wire.{same_name}

@@ -1,13 +1,13 @@
 -- What a crash leaves of a disk: the premise on disks (our profile).
 use Rattle.std.specs.Prelude.{◌≡◌, ◌≤◌, ℕ, Option, Some, None, List, [], ◌∷◌, ◌++◌, length, take}
-use Rattle.nbt_store.specs.DiskCalls.{DiskCall, created, create_failed, added, add_failed, flushed, flush_failed, installed, install_failed}
+use Rattle.nbt_store.specs.DiskCalls.{DiskCall, created, create_failed, added_beside, add_beside_failed, installed, install_failed, added, add_failed, flushed, flush_failed}
 
 -- a file, and how many octets of it, from the first one on, every crash keeps
 pub record Written : Type 0 where
   pub octets : List ℕ
   pub synced : ℕ
 
--- the file of a folder, and the new one beside it, if there is one; that one is then open
+-- the file of a folder, and the new one beside it, if there is one
 pub record Folder : Type 0 where
   pub file : Written
   pub beside : Option Written
@@ -18,10 +18,10 @@ more octets written = record { octets = written.octets ++ octets; synced = writt
 abbrev pub all_synced : Written → Written
 all_synced written = record { octets = written.octets; synced = length written.octets }
 
--- the folder with a change in the file that is open
-abbrev pub in_open : (Written → Written) → (file : Written) → (beside : Option Written) → Folder
-in_open change file None = record { file = change file; beside = None }
-in_open change file (Some new) = record { file = file; beside = Some (change new) }
+-- the new file, if there is one, changed so
+abbrev pub changed : (Written → Written) → Option Written → Option Written
+changed change None = None
+changed change (Some new) = Some (change new)
 
 -- the new file, if there is one, in the place of the old one
 abbrev pub in_place : (file : Written) → (beside : Option Written) → Folder
@@ -30,14 +30,16 @@ in_place file (Some new) = record { file = new; beside = None }
 
 -- The folder after a call. Of a write that failed any part may have been written: nothing of it is synced.
 abbrev pub after_disk_call : DiskCall → Folder → Folder
-after_disk_call (created octets) folder = record { file = folder.file; beside = Some (record { octets = octets; synced = 0 }) }
+after_disk_call (created octets) folder = record { file = folder.file; beside = Some (record { octets = octets; synced = length octets }) }
 after_disk_call (create_failed octets) folder = record { file = folder.file; beside = Some (record { octets = octets; synced = 0 }) }
-after_disk_call (added octets) folder = in_open (more octets) folder.file folder.beside
-after_disk_call (add_failed octets) folder = in_open (more octets) folder.file folder.beside
-after_disk_call flushed folder = in_open all_synced folder.file folder.beside
-after_disk_call flush_failed folder = folder
+after_disk_call (added_beside octets) folder = record { file = folder.file; beside = changed (λ new. all_synced (more octets new)) folder.beside }
+after_disk_call (add_beside_failed octets) folder = record { file = folder.file; beside = changed (more octets) folder.beside }
 after_disk_call installed folder = in_place folder.file folder.beside
 after_disk_call install_failed folder = folder
+after_disk_call (added octets) folder = record { file = more octets folder.file; beside = folder.beside }
+after_disk_call (add_failed octets) folder = record { file = more octets folder.file; beside = folder.beside }
+after_disk_call flushed folder = record { file = all_synced folder.file; beside = folder.beside }
+after_disk_call flush_failed folder = folder
 
 abbrev pub after_disk_calls : List DiskCall → Folder → Folder
 after_disk_calls [] folder = folder

@@ -1,5 +1,5 @@
 -- By which clock a server goes on with what is kept, or why it is silent (our profile).
-use Rattle.std.specs.Prelude.{◌≡◌, ◌≤◌, ℕ, ◌+◌, ◌-◌, ◌*◌, ◌&&◌, not, max, nat_eq, nat_le, Bool, Result, Ok, Err, if◌then◌else◌, List}
+use Rattle.std.specs.Prelude.{◌≡◌, ◌≤◌, ℕ, ◌+◌, ◌-◌, ◌*◌, ◌&&◌, not, max, nat_eq, nat_le, Bool, Result, Ok, Err, if◌then◌else◌}
 use Rattle.std.specs.Str.{bytes_eq}
 use Rattle.nbt_lease.specs.Config.{ConfigValue, last_moment}
 use Rattle.nbt_store.specs.declared.form.Form.{Form}

@@ -1,5 +1,5 @@
 -- Until when the changes of a file go (our profile).
-use Rattle.std.specs.Prelude.{◌≡◌, ℕ, max, List, [], ◌∷◌}
+use Rattle.std.specs.Prelude.{ℕ, max, List, [], ◌∷◌}
 use Rattle.nbt_store.specs.declared.change.Change.{Change}
 use Rattle.nbt_store.specs.declared.change.Change.TheVariants.{Looked}
 use Rattle.nbt_store.specs.declared.header.Header.{Header}

@@ -14,7 +14,7 @@ ghost use Rattle.nbt_store.specs.Changes.{MayLeave, after_all};
 ghost use Rattle.nbt_store.specs.Checksum.{checksum, prime};
 ghost use Rattle.nbt_store.specs.Crashes.{CrashLeaves, folder_of};
 ghost use Rattle.nbt_store.specs.DiskCalls.{DiskCall};
-ghost use Rattle.nbt_store.specs.DiskStores.{Asks, AskInTurn, IsNewFile, StoreDoes, disk_of, sum_of};
+ghost use Rattle.nbt_store.specs.DiskStores.{Asks, AskInTurn, IsNewFile, StoreDoes, Tail, disk_of, tail_at, tail_of};
 ghost use Rattle.nbt_store.specs.Lines.{IsClosed, IsFile, IsLine};
 ghost use Rattle.nbt_store.specs.Records.{IsRecord};
 ghost use Rattle.nbt_store.specs.Silence.{by_new_clock, unseen};
@@ -44,15 +44,16 @@ pub fn a_crash_leaves_the_first_changes()
 
 /// The calls of a store over a disk ask the disk, in turn, what such calls ask.
 pub fn calls_of_a_store_ask_in_turn<D: Disk>()
-    ensures { (old new : DiskStore D) (calls : List StoreCall) → Chain (StoreDoes D.does) old calls new → (asked : List DiskCall) × Chain D.does (disk_of old) asked (disk_of new) × AskInTurn calls (sum_of old) asked (sum_of new) }
+    ensures { (old new : DiskStore D) (calls : List StoreCall) → Chain (StoreDoes D.does) old calls new → (asked : List DiskCall) × Chain D.does (disk_of old) asked (disk_of new) × AskInTurn calls (tail_of old) asked (tail_of new) }
 {}
 
 /// Whatever a crash leaves of a disk, by the premise on it, is a file of changes that the calls of a store over it may leave: after
-/// calls that went well since it was opened with these leases, and within one more call, or after it, whatever came of that.
+/// calls that went well since it was opened with these leases, and within one more call, or after it, whatever came of that. So it is also
+/// where a new file is written beside it, part by part, while changes go on.
 pub fn a_crash_of_the_disk_leaves_what_calls_may_leave()
-    ensures between { (text : List ℕ) (h : Header) (rows : Rows) (sum last : ℕ) (calls : List StoreCall) (asked : List DiskCall) (left : List ℕ) → IsNewFile text h rows sum → AskInTurn calls sum asked last → WentWell calls → CrashLeaves (folder_of text) asked left
+    ensures between { (text : List ℕ) (h : Header) (rows : Rows) (sum : ℕ) (last : Tail) (calls : List StoreCall) (asked : List DiskCall) (left : List ℕ) → IsNewFile text h rows sum → AskInTurn calls (tail_at sum) asked last → WentWell calls → CrashLeaves (folder_of text) asked left
         → (now : Header) × (changes : List Change) × (end : ℕ) × IsFile left Three now changes end × MayLeaveAfter (kept_rows h.last rows) calls changes }
-    ensures within { (text : List ℕ) (h : Header) (rows : Rows) (sum mid next : ℕ) (calls : List StoreCall) (last : StoreCall) (asked tail : List DiskCall) (left : List ℕ) → IsNewFile text h rows sum → AskInTurn calls sum asked mid → WentWell calls → Asks last mid tail next
+    ensures within { (text : List ℕ) (h : Header) (rows : Rows) (sum : ℕ) (mid next : Tail) (calls : List StoreCall) (last : StoreCall) (asked tail : List DiskCall) (left : List ℕ) → IsNewFile text h rows sum → AskInTurn calls (tail_at sum) asked mid → WentWell calls → Asks last mid tail next
         → CrashLeaves (folder_of text) (asked ++ tail) left → (now : Header) × (changes : List Change) × (end : ℕ) × IsFile left Three now changes end × MayLeaveAfter (kept_rows h.last rows) (calls ++ last ∷ []) changes }
 {}
 

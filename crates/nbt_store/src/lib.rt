@@ -7,6 +7,7 @@ mod boot;
 mod change;
 mod disk;
 mod disk_store;
+mod draft;
 mod fault;
 mod form;
 mod header;

@@ -59,6 +59,23 @@ impl Written {
         Ok(())
     }
 
+    /// Makes all of it durable, with this trouble.
+    fn sync(&mut self, trouble: Option<Trouble>) -> io::Result<()> {
+        match trouble {
+            Some(Trouble::Refused) | Some(Trouble::Torn(_)) => Err(failure()),
+            _ => {
+                self.synced = self.octets.len();
+                Ok(())
+            }
+        }
+    }
+
+    /// Writes octets, and makes all of it durable, with this trouble.
+    fn write_all(&mut self, octets: &[u8], trouble: Option<Trouble>) -> io::Result<()> {
+        self.write(octets, most(trouble))?;
+        self.sync(trouble)
+    }
+
     /// How many cuts of it a crash may leave.
     fn cuts(&self) -> usize {
         self.octets
@@ -119,14 +136,6 @@ impl MemoryDisk {
         }
     }
 
-    /// The file that is open: the new one, if there is one.
-    fn open(&mut self) -> &mut Written {
-        match &mut self.new {
-            Some(new) => new,
-            None => &mut self.file,
-        }
-    }
-
     /// The trouble of the next call, which is counted.
     fn next_trouble(&mut self) -> Option<Trouble> {
         let call = self.calls;
@@ -141,34 +150,18 @@ impl Disk for MemoryDisk {
 
     fn create(&mut self, octets: &[u8]) -> io::Result<()> {
         let trouble = self.next_trouble();
-        let mut new = Written::empty(self.alloc);
-        let done = new.write(octets, most(trouble));
-        self.new = Some(new);
         self.installing = false;
+        let mut new = Written::empty(self.alloc);
+        let done = new.write_all(octets, trouble);
+        self.new = Some(new);
         done
     }
 
-    fn room(&self) -> Room {
-        self.room.get()
-    }
-
-    fn has_room_beside(&self) -> bool {
-        self.room.get().is_ample()
-    }
-
-    fn append(&mut self, octets: &[u8]) -> io::Result<()> {
+    fn append_beside(&mut self, octets: &[u8]) -> io::Result<()> {
         let trouble = self.next_trouble();
-        self.open().write(octets, most(trouble))
-    }
-
-    fn sync(&mut self) -> io::Result<()> {
-        match self.next_trouble() {
-            Some(Trouble::Refused) | Some(Trouble::Torn(_)) => Err(failure()),
-            _ => {
-                let open = self.open();
-                open.synced = open.octets.len();
-                Ok(())
-            }
+        match &mut self.new {
+            Some(new) => new.write_all(octets, trouble),
+            None => Err(failure()),
         }
     }
 
@@ -184,6 +177,24 @@ impl Disk for MemoryDisk {
                 Ok(())
             }
         }
+    }
+
+    fn append(&mut self, octets: &[u8]) -> io::Result<()> {
+        let trouble = self.next_trouble();
+        self.file.write(octets, most(trouble))
+    }
+
+    fn sync(&mut self) -> io::Result<()> {
+        let trouble = self.next_trouble();
+        self.file.sync(trouble)
+    }
+
+    fn room(&self) -> Room {
+        self.room.get()
+    }
+
+    fn has_room_beside(&self) -> bool {
+        self.room.get().is_ample()
     }
 }
 

@@ -8,6 +8,9 @@ use std::io::{ErrorKind, Write};
 /// So many octets of room a file gets (our profile).
 pub(crate) const ROOM: u64 = 1 << 20;
 
+/// So many of them a new file gets at once, at most (our profile): neither they nor their sync take long.
+pub(crate) const ROOM_PART: u64 = 1 << 16;
+
 /// Where fewer are left the file gets room anew; where the disk has none, what is left is for times alone (our profile).
 const LEAST: u64 = ROOM / 2;
 

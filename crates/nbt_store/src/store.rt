@@ -1,13 +1,12 @@
 //! What keeps changes over a crash.
 
-ghost use Rattle.nbt_store.specs.Calls.{StoreCall, appending, renewing, syncing};
+ghost use Rattle.nbt_store.specs.Calls.{StoreCall, appending, beginning, going_on, syncing};
 
 use crate::change::Change;
 use crate::header::Header;
 use crate::room::Room;
 use crate::syncs::Syncs;
-use nbt_lease::Lease;
-use nbt_name::Name;
+use std::collections::VecDeque;
 use std::io;
 use thiserror::Error;
 
@@ -30,11 +29,20 @@ pub trait Store {
     fn sync(&mut self) -> Result<(), Broken>
         ensures { does self.old (syncing result) self.new };
 
-    /// Writes these leases in place of all that is kept: the caller must ensure that they are the live leases that all changes
-    /// make. A crash within the call leaves what was kept before, or these. Refused with `Broken` if the store fails: what is kept
-    /// is then the one or the other.
-    fn renew(&mut self, header: &Header, rows: &[(Name, Lease)]) -> Result<(), Broken>
-        ensures { does self.old (renewing header.now rows.now result) self.new };
+    /// Begins to write a new file beside the file, of these changes, and of those that are appended from then on: the caller must ensure that
+    /// they make the live leases that all changes make. Once it is whole it takes the place of all that is kept: until then a crash leaves
+    /// what was kept before. One that was begun before is given up. Refused with `Broken` if the store fails.
+    fn begin_renewal(&mut self, header: &Header, changes: VecDeque<Change>) -> Result<(), Broken>
+        ensures { does self.old (beginning header.now changes.items result) self.new };
+
+    /// Goes on with the new file, if there is one: writes the next part of it, and if it is whole then, puts it in place of all that is kept, so
+    /// that all is durable. Returns whether it did. A crash within the call leaves what was kept before, or, if the file is whole, what that
+    /// has. Refused with `Broken` if the store fails: what is kept is then the one or the other.
+    fn go_on(&mut self) -> Result<bool, Broken>
+        ensures { does self.old (going_on result) self.new };
+
+    /// Whether a new file was begun, and isn't whole yet.
+    fn is_renewing(&self) -> bool;
 
     /// Whether what is kept has several times as many lines as leases with which it was written last, so that it is to be renewed.
     fn is_long(&self) -> bool;
@@ -44,7 +52,7 @@ pub trait Store {
         Room::Ample
     }
 
-    /// Whether there is room to write leases in place of all that is kept: where there is none, that fails.
+    /// Whether there is room for a new file: where there is none, or not yet, it is not to be begun.
     fn can_renew(&self) -> bool {
         true
     }

@@ -8,7 +8,7 @@ use crate::boot::Boot;
 use crate::disk::Disk;
 use crate::room::Room;
 use crate::spare::{
-    PAUSE, PAUSE_BESIDE, ROOM, is_full, is_little, room_of, without_room, write_zeros,
+    PAUSE, PAUSE_BESIDE, ROOM, ROOM_PART, is_full, is_little, room_of, without_room, write_zeros,
 };
 use crate::syncs::Syncs;
 use std::alloc::Global;
@@ -69,6 +69,15 @@ impl Mark {
     }
 }
 
+/// A new file: it is open at the end of its lines, of so many octets, and has so many with its room.
+#[derive(Drop)]
+struct Beside<F> {
+    file: F,
+    mark: Mark,
+    lines: u64,
+    size: u64,
+}
+
 /// A folder of the system: its file `leases`, the new file `leases.new` beside it, and the file `lock`, which it holds locked for
 /// as long as it lasts. Whoever has this value has the lock. What is appended stays in memory until the next sync, which writes all
 /// of it at once, over the zeros that the file has behind its lines as room for them. Where a disk is full, the file gets no room anew, and
@@ -92,11 +101,13 @@ pub struct SystemDisk<'a, R: Files> {
     size: Cell<u64>,
     /// When the disk had no room for it last.
     refused: Cell<Option<Duration>>,
-    /// The new file beside it, where it has all its room.
+    /// The new file beside it, where it is getting its room, or has it, and no lines yet.
     prepared: Cell<Option<Mark>>,
+    /// The new file beside it, once it has lines.
+    beside: Option<Beside<R::File>>,
     /// When the disk had no room for a new file last.
     refused_beside: Cell<Option<Duration>>,
-    /// What was appended to the open file since the last sync.
+    /// What was appended to the file since the last sync.
     unwritten: Vec<u8>,
     syncs: Syncs,
 }
@@ -130,6 +141,7 @@ impl<'a, R: Files<File = File>> SystemDisk<'a, R> {
             size: Cell::new(0),
             refused: Cell::new(None),
             prepared: Cell::new(None),
+            beside: None,
             refused_beside: Cell::new(None),
             unwritten: Vec::new(alloc),
             syncs: Syncs::NONE,
@@ -224,14 +236,30 @@ impl<R: Files + time::Clock> SystemDisk<'_, R> {
         done
     }
 
-    /// Makes the new file beside the file, with zeros where its lines will be and as its room, and makes that durable.
-    fn prepare(&self) -> io::Result<Mark> {
+    /// Gives the new file beside the file a part more of its room, with zeros where its lines will be too, and makes that durable; it is made
+    /// first, where there is none. Returns whether it has all of it.
+    fn prepare(&self) -> io::Result<bool> {
+        let mut file = self.open_prepared()?;
+        let size = file.seek(SeekFrom::End(0))?;
+        let lacks = self.lines.saturating_add(ROOM).saturating_sub(size);
+        if lacks > 0 {
+            write_zeros(&mut file, lacks.min(ROOM_PART))?;
+            file.sync_data()?;
+        }
+        Ok(lacks <= ROOM_PART)
+    }
+
+    /// The new file that is getting its room; a new one, where there is none.
+    fn open_prepared(&self) -> io::Result<R::File> {
+        let path = self.new_path.as_str();
+        check_new(self.machine, path)?;
+        if let Some(mark) = self.prepared.get() {
+            return opened_as(self.machine, path, mark);
+        }
         self.check()?;
-        check_new(self.machine, self.new_path.as_str())?;
-        let mut file = new_file(self.machine, self.new_path.as_str())?;
-        write_zeros(&mut file, self.lines.saturating_add(ROOM))?;
-        file.sync_data()?;
-        Ok(Mark::of(&file.metadata()?))
+        let file = new_file(self.machine, path)?;
+        self.prepared.set(Some(Mark::of(&file.metadata()?)));
+        Ok(file)
     }
 
     /// The new file: that which was prepared, or one without octets.
@@ -387,13 +415,43 @@ impl<'a, R: Files + time::Clock> Disk for SystemDisk<'a, R> {
 
     fn create(&mut self, octets: &[u8]) -> io::Result<()> {
         self.check_lock()?;
+        self.beside = None;
         let mut file = self.open_new()?;
         file.write_all(octets)?;
         let lines = octets.len() as u64;
-        self.size.set(add_room(&mut file, lines)?);
-        self.lines = lines;
-        self.mark = Some(Mark::of(&file.metadata()?));
-        self.open = Some(file);
+        let size = add_room(&mut file, lines)?;
+        file.sync_data()?;
+        let mark = Mark::of(&file.metadata()?);
+        self.beside = Some(Beside {
+            file,
+            mark,
+            lines,
+            size,
+        });
+        Ok(())
+    }
+
+    fn append_beside(&mut self, octets: &[u8]) -> io::Result<()> {
+        let beside = opened(&mut self.beside)?;
+        beside.file.write_all(octets)?;
+        beside.lines = beside.lines.saturating_add(octets.len() as u64);
+        beside.size = beside.size.max(beside.lines);
+        beside.file.sync_data()
+    }
+
+    fn install(&mut self) -> io::Result<()> {
+        self.check_lock()?;
+        let beside = self
+            .beside
+            .take()
+            .ok_or(io::Error::from(ErrorKind::NotFound))?;
+        check_mark(self.machine, self.new_path.as_str(), beside.mark)?;
+        fs::rename(self.machine, self.new_path.as_str(), self.path.as_str())?;
+        sync_folder(self.machine, self.folder)?;
+        self.lines = beside.lines;
+        self.size.set(beside.size);
+        self.mark = Some(beside.mark);
+        self.open = Some(beside.file);
         self.unwritten.clear();
         Ok(())
     }
@@ -415,11 +473,6 @@ impl<'a, R: Files + time::Clock> Disk for SystemDisk<'a, R> {
         Ok(())
     }
 
-    fn install(&mut self) -> io::Result<()> {
-        fs::rename(self.machine, self.new_path.as_str(), self.path.as_str())?;
-        sync_folder(self.machine, self.folder)
-    }
-
     fn room(&self) -> Room {
         if is_little(self.left()) && self.is_since(self.refused.get(), PAUSE) {
             match self.extend() {
@@ -431,19 +484,14 @@ impl<'a, R: Files + time::Clock> Disk for SystemDisk<'a, R> {
     }
 
     fn has_room_beside(&self) -> bool {
-        if self.prepared.get().is_some() {
-            return true;
-        }
         if !self.is_since(self.refused_beside.get(), PAUSE_BESIDE) {
             return false;
         }
         match self.prepare() {
-            Ok(mark) => {
-                self.prepared.set(Some(mark));
-                true
-            }
+            Ok(is_whole) => is_whole,
             Err(error) if is_full(&error) => {
                 let _ = fs::remove_file(self.machine, self.new_path.as_str());
+                self.prepared.set(None);
                 self.refused_beside.set(self.now());
                 false
             }

@@ -81,7 +81,7 @@ pub fn write_file(
 }
 
 /// Appends the line of the version, and that of the header of a file of so many leases. Returns the checksum of that.
-fn write_front(
+pub(crate) fn write_front(
     alloc: Global,
     header: &Header,
     leases: u64,

@@ -1,4 +1,3 @@
-use Rattle.std.proofs.Common.{ap}
 use Rattle.std.proofs.lemmas.Result.{err_from_is_err_and}
 use Rattle.nbt_store.proofs.WholeLines.{bad_rest_refused, file_loaded}
 use Rattle.nbt_store.proofs.reading.load.Goals as goal

@@ -1,4 +1,4 @@
-use Rattle.std.proofs.Common.{[], refl, rules}
+use Rattle.std.proofs.Common.{rules}
 use Rattle.std.proofs.lemmas.Result.{err_from_is_err_and}
 use Rattle.nbt_lease.specs.Inner.Index.{members_of}
 use Rattle.nbt_store.specs.Lines.{whole_lines}

@@ -1,4 +1,4 @@
-use Rattle.std.proofs.Common.{◌≡◌, ◌≤◌, Err, refl, ap, ◌∙◌, arith}
+use Rattle.std.proofs.Common.{◌≡◌, Err, refl, ap, ◌∙◌, arith}
 use Rattle.nbt_server.specs.declared.fault.ResumeFault.TheVariants as fault
 use Rattle.nbt_store.specs.Resuming.{too_old, later_rows}
 use Rattle.nbt_store.proofs.Deciding.{goes, full, unsound}
