@@ -1,6 +1,6 @@
 -- What a crash leaves, call by call, of a server that keeps its leases.
 use Rattle.std.proofs.Common.{◌≡◌, ℕ, ◌+◌, ◌≤◌, true, Bool, List, [], ◌∷◌, ◌++◌, length, take, map, Option, Some, None, inl, inr, refl, sym, ap, ◌∙◌, subst, ⊎_elim, arith}
-use Rattle.std.specs.Prelude.{nat_le, nat_lt, filter, is_some}
+use Rattle.std.specs.Prelude.{max, nat_le, nat_lt, filter, is_some}
 use Rattle.std.specs.List.{flat_map}
 use Rattle.std.proofs.Math.Nat.{le-max_left, le-max_right, max-le}
 use Rattle.std.proofs.lemmas.Bool.{cases_lt, ltb-false}
@@ -18,8 +18,8 @@ use Rattle.nbt_store.specs.declared.change.Change.{Change}
 use Rattle.nbt_store.specs.declared.change.Change.TheVariants.{Reached}
 use Rattle.nbt_store.specs.declared.form.Form.TheVariants.{Three}
 use Rattle.nbt_store.specs.Lines.{AllStand}
-use Rattle.nbt_store.specs.Calls.{StoreCall, appended, append_failed, synced, sync_failed, renewed, renew_failed, Kept, after_call}
-use Rattle.nbt_store.specs.Changes.{after, after_all, last_of, no_leases, Stands}
+use Rattle.nbt_store.specs.Calls.{StoreCall, appended, append_failed, synced, sync_failed, renewal_failed, Draft, Kept, after_call, with_change}
+use Rattle.nbt_store.specs.Changes.{after, after_all, at_of, last_of, no_leases, Stands}
 use Rattle.nbt_packet.specs.Text.{text}
 use Rattle.nbt_port.specs.declared.port.Route.{Route}
 use Rattle.nbt_server.specs.Calls.{ServerTakes}
@@ -29,7 +29,7 @@ use Rattle.nbt_serve.specs.Devices.{DeviceCall, on_port, on_store}
 use Rattle.nbt_serve.specs.Waiting.{ReplyValue, WaitingValue, IsAbout, counted, one_less, with_line, durable_then, all_durable, dropped, lay_down, laid_down, LineFails, not_appended, not_synced, syncs_of, sends_of, timely, leaving}
 use Rattle.nbt_serve.specs.declared.waiting.Unsynced.{Unsynced}
 use Rattle.nbt_serve.specs.Turning.{Barred, Took, Takes, reply_in, about_in, answered, asked_for, receive_in, reach, reached, with_lines, before_it, with_any, behind_it, appends_of, behind, taking}
-use Rattle.nbt_serve.specs.Runs.{IsEarlier, nothing, AreAmong, AreAnswers, replies_in, MayBeSent}
+use Rattle.nbt_serve.specs.Runs.{IsEarlier, nothing, AreAmong, AreAnswers, last_by, replies_in, MayBeSent}
 use Rattle.nbt_serve.proofs.Left.{stand_more, out_behind, out_on, last_on, last_at}
 use Rattle.nbt_serve.proofs.Among.{among_behind, among_inside, among_front, among_without}
 use Rattle.nbt_serve.proofs.Asked.{AreAlike, any_front, one_other, alike_run, turn_onward, live_alike, taken_too, server_after}
@@ -43,10 +43,6 @@ pub record Past : Type 0 where
   pub last : ℕ
   pub gone : List DatagramValue
 
-abbrev pub last_by : StoreCall → ℕ → ℕ
-last_by (renewed header rows) last = header.last
-last_by call last = last
-
 abbrev pub one_gone : DatagramValue → Past → Past
 one_gone reply p = record p { gone = p.gone ++ reply ∷ [] }
 
@@ -54,12 +50,12 @@ abbrev pub by_call : DeviceCall → Past → Past
 by_call (on_port (sent to octets)) p = one_gone (record { route = to; octets = octets }) p
 by_call (on_port (send_failed to octets)) p = one_gone (record { route = to; octets = octets }) p
 by_call (on_port call) p = p
-by_call (on_store call) p = record p { kept = after_call call p.kept; last = last_by call p.last }
+by_call (on_store call) p = record p { kept = after_call call p.kept; last = last_by call p.kept p.last }
 
 -- a reply is sent only where it may be, and no renewal fails
 abbrev pub May : Past → DeviceCall → Type 0
 May p (on_port (sent to octets)) = MayBeSent p.kept octets
-May p (on_store (renew_failed header rows)) = ⊥
+May p (on_store renewal_failed) = ⊥
 May p call = Unit {0}
 
 abbrev pub by_calls : List DeviceCall → Past → Past
@@ -76,7 +72,7 @@ all_then (c ∷ cs) change start = all_then cs change (after c start)
 
 -- ---- times
 
-then_later : (durable : ℕ) (unsynced : Option Unsynced) → durable ≤ durable_then durable unsynced
+pub then_later : (durable : ℕ) (unsynced : Option Unsynced) → durable ≤ durable_then durable unsynced
 then_later durable None = omega arith
 then_later durable (Some unsynced) = le-max_left durable unsynced.at
 
@@ -103,6 +99,26 @@ turn_soon old _ _ w (goes_back now from octets early) soon = let l = later now w
 turn_soon old _ _ w (has_no_memory now from octets new forgets) soon = let l = within now w in let e = forgets.last in omega (arith, l, e)
 
 -- ---- what holds between calls
+
+-- A new file, if there is one, has the server's live leases, and its last time isn't before this one.
+abbrev pub Drafted : ServerValue → (time : ℕ) → Option Draft → Type 0
+Drafted server time None = Unit {0}
+Drafted server time (Some draft) = IsKept (after_all draft.changes no_leases) server × AllStand Three draft.changes no_leases × (time ≤ last_of draft.last draft.changes)
+
+-- also of a later server, of which no lease that is kept changed
+drafted_on : (server new : ServerValue) (time later : ℕ) (draft : Option Draft) → ((kept : Leases) → IsKept kept server → IsKept kept new) → later ≤ time → Drafted server time draft → Drafted new later draft
+drafted_on server new time later None keeps less d = tt
+drafted_on server new time later (Some draft) keeps less d = (keeps (after_all draft.changes no_leases) d.0, d.1, let l = d.2 in omega (arith, less, l))
+
+-- and with a change more
+drafted_more : (server new : ServerValue) (time later : ℕ) (change : Change) (draft : Option Draft) → ((kept : Leases) → IsKept kept server → IsKept (after change kept) new) → ((kept : Leases) → IsKept kept server → Stands change kept)
+    → later ≤ max time (at_of change) → Drafted server time draft → Drafted new later (with_change change draft)
+drafted_more server new time later change None keeps stands less d = tt
+drafted_more server new time later change (Some draft) keeps stands less d = (
+  subst (λ (f : Leases). IsKept f new) (sym (all_then draft.changes change no_leases)) (keeps (after_all draft.changes no_leases) d.0),
+  stand_more draft.changes change no_leases d.1 (stands (after_all draft.changes no_leases) d.0),
+  let l = last_on draft.last draft.changes change in let a = last_at draft.last draft.changes change in let t = d.2 in omega (arith, less, l, a, t),
+)
 
 abbrev pub datagrams : List ReplyValue → List DatagramValue
 datagrams replies = map (λ reply. reply.datagram) replies
@@ -138,6 +154,7 @@ module _ (first : ServerValue) where
     pub all : w.unsynced ≡ None → p.kept.durable ≡ length p.kept.changes
     pub times : durable_then w.durable w.unsynced ≤ last_of p.last p.kept.changes
     pub soon : server.last ≤ w.durable + reach
+    pub drafted : Drafted server (durable_then w.durable w.unsynced) p.kept.draft
 
   pub safe_of : (turns : List Turn) (server : ServerValue) (w : WaitingValue) (p : Past) → Good turns server w p → Safe turns p
   safe_of turns server w p g = λ count least most. (g.sound count least most).earlier
@@ -199,8 +216,8 @@ module _ (first : ServerValue) where
 
   -- all is durable
   pub durable_good : (turns : List Turn) (server : ServerValue) (w : WaitingValue) (p : Past) → Chain Turns first turns server → IsKept (after_all p.kept.changes no_leases) server → AllStand Three p.kept.changes no_leases → AreAmong (p.gone ++ datagrams w.replies) (replies_in turns)
-      → p.kept.durable ≡ length p.kept.changes → durable_then w.durable w.unsynced ≤ last_of p.last p.kept.changes → server.last ≤ w.durable + reach → Good turns server w p
-  durable_good turns server w p run leases stand are all times soon = record {
+      → p.kept.durable ≡ length p.kept.changes → durable_then w.durable w.unsynced ≤ last_of p.last p.kept.changes → server.last ≤ w.durable + reach → Drafted server (durable_then w.durable w.unsynced) p.kept.draft → Good turns server w p
+  durable_good turns server w p run leases stand are all times soon drafted = record {
     run = run;
     leases = leases;
     stand = stand;
@@ -211,6 +228,7 @@ module _ (first : ServerValue) where
     all = λ _. all;
     times = times;
     soon = soon;
+    drafted = drafted;
   }
 
   -- ---- the parts of a step
@@ -253,12 +271,13 @@ module _ (first : ServerValue) where
 
   -- what is kept with one change more
   abbrev more : Past → Change → Past
-  more p change = record p { kept = record { changes = p.kept.changes ++ change ∷ []; durable = p.kept.durable } }
+  more p change = record p { kept = record { changes = p.kept.changes ++ change ∷ []; durable = p.kept.durable; draft = with_change change p.kept.draft } }
 
   -- A change is appended: the server is one that has it, and so many replies wait.
   module _ (turns : List Turn) (change : Change) (server : ServerValue) (w : WaitingValue) (replies : List ReplyValue) (p : Past) (run : Chain Turns first turns server) (leases : IsKept (after_all (p.kept.changes ++ change ∷ []) no_leases) server) (stand : AllStand Three (p.kept.changes ++ change ∷ []) no_leases)
       (sound : (count : ℕ) → p.kept.durable ≤ count → count ≤ length p.kept.changes → At turns server.last w.durable replies p.gone p.last (p.kept.changes ++ change ∷ []) (take count p.kept.changes))
-      (are : AreAmong (p.gone ++ datagrams replies) (replies_in turns)) (times : w.durable ≤ last_of p.last p.kept.changes) (soon : server.last ≤ w.durable + reach) where
+      (are : AreAmong (p.gone ++ datagrams replies) (replies_in turns)) (times : w.durable ≤ last_of p.last p.kept.changes) (soon : server.last ≤ w.durable + reach)
+      (drafted : Drafted server (max w.durable (at_of change)) (with_change change p.kept.draft)) where
     grown_late : w.durable ≤ last_of p.last (p.kept.changes ++ change ∷ [])
     grown_late = let l = last_on p.last p.kept.changes change in omega (arith, l, times)
 
@@ -288,6 +307,7 @@ module _ (first : ServerValue) where
         all = λ none. absurd cc;
         times = let l = last_on p.last p.kept.changes change in let a = last_at p.last p.kept.changes change in max-le (omega (arith, l, times)) a;
         soon = soon;
+        drafted = drafted;
       };
     }
 
@@ -299,15 +319,16 @@ module _ (first : ServerValue) where
   now_durable : (turns : List Turn) (server : ServerValue) (w : WaitingValue) (p : Past) → Good turns server w p → Goes turns server (all_durable w) p (map on_store (syncs_of w.unsynced))
   now_durable turns server w p g = by_kind w.unsynced refl
     where
-      good_then : (q : Past) → q.gone ≡ p.gone → q.last ≡ p.last → q.kept.changes ≡ p.kept.changes → q.kept.durable ≡ length q.kept.changes → Good turns server (all_durable w) q
-      good_then q gone last changes all =
+      good_then : (q : Past) → q.gone ≡ p.gone → q.last ≡ p.last → q.kept.changes ≡ p.kept.changes → q.kept.draft ≡ p.kept.draft → q.kept.durable ≡ length q.kept.changes → Good turns server (all_durable w) q
+      good_then q gone last changes drafts all =
           durable_good turns server (all_durable w) q g.run (subst (λ (cs : List Change). IsKept (after_all cs no_leases) server) (sym changes) g.leases) (subst (λ (cs : List Change). AllStand Three cs no_leases) (sym changes) g.stand) (subst (λ (ds : List DatagramValue). AreAmong (ds ++ datagrams w.replies) (replies_in turns)) (sym gone) g.replies)
           all (subst (λ (n : ℕ). durable_then w.durable w.unsynced ≤ n) (sym (ap (λ (n : ℕ). last_of n q.kept.changes) last ∙ ap (last_of p.last) changes)) g.times) (let l = then_later w.durable w.unsynced in let s = g.soon in omega (arith, l, s))
+          (subst (Drafted server (durable_then w.durable w.unsynced)) (sym drafts) g.drafted)
 
       by_kind : (u : Option Unsynced) → w.unsynced ≡ u → Goes turns server (all_durable w) p (map on_store (syncs_of u))
-      by_kind None is = record { along = safe_of turns server w p g; good = good_then p refl refl refl (g.all is) }
+      by_kind None is = record { along = safe_of turns server w p g; good = good_then p refl refl refl refl (g.all is) }
       by_kind (Some unsynced) is =
-          let h = good_then (record p { kept = record { changes = p.kept.changes; durable = length p.kept.changes } }) refl refl refl refl in
+          let h = good_then (record p { kept = record { changes = p.kept.changes; durable = length p.kept.changes; draft = p.kept.draft } }) refl refl refl refl refl in
           record { along = (safe_of turns server w p g, tt, safe_of turns server (all_durable w) _ h); good = h }
 
   -- a line that changes no lease is appended, and becomes durable
@@ -331,15 +352,20 @@ module _ (first : ServerValue) where
     durable_by : w.durable ≤ last_of p.last p.kept.changes
     durable_by = let l = then_later w.durable w.unsynced in let t = g.times in omega (arith, l, t)
 
+    line_drafted : Drafted server (max w.durable (at_of line)) (with_change line p.kept.draft)
+    line_drafted =
+        drafted_more server server (durable_then w.durable w.unsynced) (max w.durable (at_of line)) line p.kept.draft (λ kept k. subst (λ (f : Leases). IsKept f server) (sym (same kept)) k) (λ kept k. stands kept)
+        (let l = then_later w.durable w.unsynced in omega (arith, l)) g.drafted
+
     line_grown : Goes turns server (with_line line w) p (on_store (appended line) ∷ [])
-    line_grown = grown turns line server w w.replies p g.run line_kept line_stands line_sound g.replies durable_by g.soon
+    line_grown = grown turns line server w w.replies p g.run line_kept line_stands line_sound g.replies durable_by g.soon line_drafted
 
     pub laid : Goes turns server (laid_down line w) p (map on_store (lay_down line))
     laid = and_then turns server server (with_line line w) (laid_down line w) p (on_store (appended line) ∷ []) (on_store synced ∷ []) line_grown (λ h. now_durable turns server (with_line line w) _ h)
 
     -- or the store fails at that
     pub not_laid : (calls : List StoreCall) → LineFails line calls → Along turns p (map on_store calls)
-    not_laid _ not_appended = maybe_grown turns line server w w.replies p g.run line_kept line_stands line_sound g.replies durable_by g.soon
+    not_laid _ not_appended = maybe_grown turns line server w w.replies p g.run line_kept line_stands line_sound g.replies durable_by g.soon line_drafted
     not_laid _ not_synced = let a = line_grown in let s = safe_of turns server (with_line line w) _ a.good in along-append turns (on_store (appended line) ∷ []) (on_store sync_failed ∷ []) p a.along (s, tt, s)
 
   all_laid : (moments : List ℕ) (turns : List Turn) (server : ServerValue) (w : WaitingValue) (p : Past) → Good turns server w p
@@ -387,6 +413,7 @@ module _ (first : ServerValue) where
       all = g.all;
       times = g.times;
       soon = soon;
+      drafted = drafted_on server new (durable_then v.durable v.unsynced) (durable_then v.durable v.unsynced) p.kept.draft taken.keeps (omega arith) g.drafted;
     }
 
     -- its change is appended, or may have been
@@ -408,11 +435,15 @@ module _ (first : ServerValue) where
       sound_here : (count : ℕ) → p.kept.durable ≤ count → count ≤ length p.kept.changes → At (turns ++ turn ∷ []) new.last v.durable (v.replies ++ reply_in turn) p.gone p.last (p.kept.changes ++ change ∷ []) (take count p.kept.changes)
       sound_here count least most = at_more (reply_in turn) p.gone p.last p.kept.changes (p.kept.changes ++ change ∷ []) (take count p.kept.changes) of_others (g.sound count least most)
 
+      drafted_here : Drafted new (max v.durable (at_of change)) (with_change change p.kept.draft)
+      drafted_here =
+          drafted_more server new (durable_then v.durable v.unsynced) (max v.durable (at_of change)) change p.kept.draft taken.keeps taken.stands (let l = then_later v.durable v.unsynced in omega (arith, l)) g.drafted
+
       pub changed : Goes (turns ++ turn ∷ []) new (behind (reply_in turn) (with_any (Some change) v)) p (on_store (appended change) ∷ [])
-      changed = grown (turns ++ turn ∷ []) change new v (v.replies ++ reply_in turn) p (chain_on Turns first server new turns turn g.run taken.server) kept_more stand_here sound_here (more_replies turn turns v.replies p.gone g.replies) durable_here soon
+      changed = grown (turns ++ turn ∷ []) change new v (v.replies ++ reply_in turn) p (chain_on Turns first server new turns turn g.run taken.server) kept_more stand_here sound_here (more_replies turn turns v.replies p.gone g.replies) durable_here soon drafted_here
 
       pub maybe_changed : Along (turns ++ turn ∷ []) p (on_store (append_failed change) ∷ [])
-      maybe_changed = maybe_grown (turns ++ turn ∷ []) change new v (v.replies ++ reply_in turn) p (chain_on Turns first server new turns turn g.run taken.server) kept_more stand_here sound_here (more_replies turn turns v.replies p.gone g.replies) durable_here soon
+      maybe_changed = maybe_grown (turns ++ turn ∷ []) change new v (v.replies ++ reply_in turn) p (chain_on Turns first server new turns turn g.run taken.server) kept_more stand_here sound_here (more_replies turn turns v.replies p.gone g.replies) durable_here soon drafted_here
 
   changed_so : (barred : Option Barred) (turn : Turn) (change : Option Change) (turns : List Turn) (server new : ServerValue) (v : WaitingValue) (onward : server.last ≤ new.last) (soon : new.last ≤ v.durable + reach) (p : Past) → Takes server (record { turn = turn; change = change; barred = barred }) new → Good turns server v p
       → Goes (turns ++ turn ∷ []) new (behind (reply_in turn) (with_any change v)) p (map on_store (appends_of change))
@@ -430,6 +461,7 @@ module _ (first : ServerValue) where
     all = λ none. g.all (was_none w.unsynced none);
     times = subst (λ (n : ℕ). n ≤ last_of p.last p.kept.changes) (same_time w.unsynced) g.times;
     soon = g.soon;
+    drafted = subst (λ (n : ℕ). Drafted server n p.kept.draft) (same_time w.unsynced) g.drafted;
   }
     where
       was_none : (u : Option Unsynced) → one_less u ≡ None → u ≡ None
@@ -512,6 +544,7 @@ module _ (first : ServerValue) where
       all = g.all;
       times = g.times;
       soon = soon;
+      drafted = drafted_on server new (durable_then w.durable w.unsynced) (durable_then w.durable w.unsynced) p.kept.draft keeps (omega arith) g.drafted;
     }
 
     -- it may be sent
@@ -532,7 +565,7 @@ module _ (first : ServerValue) where
   gone_good reply turns server w replies p is clear g =
       durable_good turns server (record w { replies = replies }) (one_gone reply.datagram p) g.run g.leases g.stand
       (subst (λ (ds : List DatagramValue). AreAmong ds (replies_in turns)) (ap (λ (rs : List ReplyValue). p.gone ++ datagrams rs) is ∙ sym (append_assoc p.gone (reply.datagram ∷ []) (datagrams replies))) g.replies)
-      (g.all clear) g.times g.soon
+      (g.all clear) g.times g.soon g.drafted
 
   all_sent : (replies rest : List ReplyValue) (turns : List Turn) (server : ServerValue) (w : WaitingValue) (p : Past) → w.replies ≡ replies ++ rest → w.unsynced ≡ None → Good turns server w p
       → Goes turns server (record w { replies = rest }) p (map on_port (sends_of replies))
@@ -558,7 +591,7 @@ module _ (first : ServerValue) where
 
   in_time : (life now : ℕ) (turns : List Turn) (server : ServerValue) (w : WaitingValue) (p : Past) → w.unsynced ≡ None → Good turns server w p → Good turns server (record w { replies = timely life now w.replies }) p
   in_time life now turns server w p clear g =
-      durable_good turns server (record w { replies = timely life now w.replies }) p g.run g.leases g.stand (among_timely (λ (reply : ReplyValue). nat_le now (reply.read + life)) p.gone w.replies (replies_in turns) g.replies) (g.all clear) g.times g.soon
+      durable_good turns server (record w { replies = timely life now w.replies }) p g.run g.leases g.stand (among_timely (λ (reply : ReplyValue). nat_le now (reply.read + life)) p.gone w.replies (replies_in turns) g.replies) (g.all clear) g.times g.soon g.drafted
 
   -- all that waits leaves
   pub left : (life now : ℕ) (turns : List Turn) (server : ServerValue) (w : WaitingValue) (p : Past) → Good turns server w p → Goes turns server (dropped (all_durable w)) p (leaving life now w)

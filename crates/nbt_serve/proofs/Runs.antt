@@ -16,19 +16,19 @@ use Rattle.nbt_server.specs.Calls.{ServerTakes}
 use Rattle.nbt_store.specs.declared.change.Change.{Change}
 use Rattle.nbt_store.specs.declared.change.Change.TheVariants.{Reached, Looked}
 use Rattle.nbt_store.specs.declared.header.Header.{Header}
-use Rattle.nbt_store.specs.Calls.{StoreCall, appended, append_failed, synced, sync_failed, renewed, renew_failed, kept_rows, after_call, after_calls, MayLeaveAfter, first_changes, new_leases}
+use Rattle.nbt_store.specs.Calls.{StoreCall, append_failed, sync_failed, renewal_began, renewal_went_on, renewed, renewal_failed, Draft, kept_all, put_in_place, after_call, after_calls, MayLeaveAfter, first_changes, as_drafted}
 use Rattle.nbt_store.specs.Changes.{after_all, begun_all, no_leases}
 use Rattle.nbt_serve.specs.Serving.{Turn, is_empty, is_taken, is_lost, moments_in, Turns, takes}
 use Rattle.nbt_serve.specs.Changing.{IsKept, after_any}
 use Rattle.nbt_serve.specs.Devices.{DeviceCall, on_port, on_store}
-use Rattle.nbt_serve.specs.Waiting.{ReplyValue, WaitingValue, IsAbout, none_waits, IsClear, counted, dropped, lay_down, laid_down, LineFails, sends_of}
+use Rattle.nbt_serve.specs.Waiting.{ReplyValue, WaitingValue, IsAbout, none_waits, IsClear, counted, dropped, durable_then, lay_down, laid_down, LineFails, sends_of}
 use Rattle.nbt_serve.specs.Turning.{Barred, Took, answered, Takes, TakesAny, RestsOnNothing, all_stands, of_no_change, IsAhead, goes_ahead, waits, with_reply, first_calls, before_it, behind_it, behind, reach, reached, reply_in, asked_for, taking, stores, receive_in, Passes, still_waits, all_leave, sync_fails, send_fails, Fails, receive_fails, reaching_fails, append_fails, leaving_fails, ahead_fails}
-use Rattle.nbt_serve.specs.Runs.{Held, Seen, live_rows, Steps, takes_turn, port_fails, looks, renews, calls_in, turn_of, turns_in, stored_in, gone_in, last_after, last_left, AreAmong, replies_in, IsEarlier, MayBeSent}
+use Rattle.nbt_serve.specs.Runs.{Held, Seen, live_rows, Steps, takes_turn, port_fails, looks, begins_renewal, goes_on_renewing, renews, calls_in, turn_of, turns_in, stored_in, gone_in, last_by, last_drafted, last_left, IsEarlier, MayBeSent}
 use Rattle.nbt_serve.specs.declared.fault.KeepFault.TheVariants as fault
 use Rattle.nbt_serve.proofs.Left.{last_from, stand_begun}
 use Rattle.nbt_serve.proofs.Never.{change_none, before_same, behind_same}
 use Rattle.nbt_serve.proofs.Asked.{turn_onward}
-use Rattle.nbt_serve.proofs.Crashes.{Past, last_by, by_call, datagrams, May, Safe, Along, Good, Goes, safe_of, safe_more, along_more, along-append, durable_good, joined, and_then, counted_goes, took, asked_good, may_ask, left, part_left, maybe_changed, came_to, turn_soon, laid, not_laid, sent_at_once, lost_at_once}
+use Rattle.nbt_serve.proofs.Crashes.{Past, Drafted, by_call, May, Safe, Along, Good, Goes, safe_of, safe_more, along_more, along-append, durable_good, joined, and_then, counted_goes, took, asked_good, may_ask, left, part_left, maybe_changed, came_to, turn_soon, laid, not_laid, sent_at_once, lost_at_once}
 use Rattle.nbt_serve.proofs.Renewed.{renewed_kept}
 
 taken_of : (old new : ServerValue) (now : ℕ) (from : Route) (octets : List ℕ) (reply : Option MessageValue) → Turns old (is_taken now from octets reply) new → ServerTakes old now from.peer.ip octets reply new
@@ -194,15 +194,43 @@ module _ (first : ServerValue) (turns : List Turn) (server : ServerValue) (w : W
   pub look_failed : (day at : ℕ) (calls : List StoreCall) → LineFails (Looked day at) calls → Along first (turns ++ []) p (map on_store calls)
   look_failed day at calls fails = along_more first turns [] (map on_store calls) p (not_laid first turns server w p (Looked day at) (λ leases. refl) (λ leases. tt) g calls fails)
 
-  -- all is written anew
-  pub renewed_so : (header : Header) → IsClear w → w.durable ≤ header.last → Goes first (turns ++ []) server (none_waits header.last) p (on_store (renewed header (live_rows server)) ∷ [])
-  renewed_so header clear onward =
+  -- a new file is begun
+  pub renewal_begun : (header : Header) → IsClear w → w.durable ≤ header.last → Goes first (turns ++ []) server w p (on_store (renewal_began header (begun_all header.last (live_rows server))) ∷ [])
+  renewal_begun header clear onward =
       let rows = live_rows server in
-      let new : Past = record p { kept = kept_rows header.last rows; last = header.last } in
-      let are = subst (λ (v : WaitingValue). AreAmong (p.gone ++ datagrams v.replies) (replies_in turns)) clear g.replies in
-      subst (λ (ts : List Turn). Goes first ts server (none_waits header.last) p (on_store (renewed header rows) ∷ [])) (sym (append-nil turns))
-      (let h = durable_good first turns server (none_waits header.last) new g.run (renewed_kept server (after_all p.kept.changes no_leases) header.last g.leases) (stand_begun header.last rows no_leases) are refl (last_from header.last (begun_all header.last rows)) (let s = g.soon in omega (arith, s, onward)) in
-      record { along = (safe_of first turns server w p g, tt, safe_of first turns server (none_waits header.last) new h); good = h })
+      let time : durable_then w.durable w.unsynced ≤ header.last = subst (λ (v : WaitingValue). durable_then w.durable v.unsynced ≤ header.last) (sym clear) onward in
+      let s = safe_of first turns server w p g in
+      subst (λ (ts : List Turn). Goes first ts server w p (on_store (renewal_began header (begun_all header.last rows)) ∷ [])) (sym (append-nil turns))
+      (record {
+        along = (s, tt, s);
+        good = record {
+          run = g.run;
+          leases = g.leases;
+          stand = g.stand;
+          sound = g.sound;
+          replies = g.replies;
+          all = g.all;
+          times = g.times;
+          soon = g.soon;
+          drafted = (renewed_kept server (after_all p.kept.changes no_leases) header.last g.leases, stand_begun header.last rows no_leases, let l = last_from header.last (begun_all header.last rows) in omega (arith, l, time));
+        };
+      })
+
+  -- it is gone on with
+  pub renewal_on : Goes first (turns ++ []) server w p (on_store renewal_went_on ∷ [])
+  renewal_on =
+      let s = safe_of first turns server w p g in
+      subst (λ (ts : List Turn). Goes first ts server w p (on_store renewal_went_on ∷ [])) (sym (append-nil turns)) (record { along = (s, tt, s); good = g })
+
+  -- it takes the file's place
+  in_its_place : (draft : Option Draft) → Drafted server (durable_then w.durable w.unsynced) draft → Good first turns server w (record { kept = put_in_place draft p.kept; last = last_drafted draft p.last; gone = p.gone })
+  in_its_place None drafted = g
+  in_its_place (Some draft) drafted = durable_good first turns server w (record { kept = kept_all draft.changes; last = draft.last; gone = p.gone }) g.run drafted.0 drafted.1 g.replies refl drafted.2 g.soon tt
+
+  pub renewed_so : Goes first (turns ++ []) server w p (on_store renewed ∷ [])
+  renewed_so =
+      let h = in_its_place p.kept.draft g.drafted in
+      subst (λ (ts : List Turn). Goes first ts server w p (on_store renewed ∷ [])) (sym (append-nil turns)) (record { along = (safe_of first turns server w p g, tt, safe_of first turns server w _ h); good = h })
 
 -- what left at a call, and at those behind it
 pub gone_on : (call : DeviceCall) (calls : List DeviceCall) (p : Past) → (by_call call p).gone ++ gone_in calls ≡ p.gone ++ gone_in (call ∷ calls)
@@ -213,21 +241,14 @@ gone_on (on_port (sent to octets)) calls p = append_assoc p.gone (record { route
 gone_on (on_port (send_failed to octets)) calls p = append_assoc p.gone (record { route = to; octets = octets } ∷ []) (gone_in calls)
 gone_on (on_store call) calls p = refl
 
--- LAST after a call, and after those behind it
-pub last_on_from : (call : StoreCall) (calls : List StoreCall) (last : ℕ) → last_after calls (last_by call last) ≡ last_after (call ∷ calls) last
-last_on_from (appended change) calls last = refl
-last_on_from (append_failed change) calls last = refl
-last_on_from synced calls last = refl
-last_on_from sync_failed calls last = refl
-last_on_from (renewed header rows) calls last = refl
-last_on_from (renew_failed header rows) calls last = refl
-
 module _ (first : ServerValue) where
   pub stepped : (seen : Seen) (old new : Held) (turns : List Turn) (p : Past) → Steps old seen new → Good first turns old.server old.waiting p → Goes first (turns ++ turn_of seen.took) new.server new.waiting p seen.calls
   stepped _ old _ turns p (takes_turn life t ahead calls readings server waiting taken passes) g = passed first turns old.server old.waiting p g life t ahead calls readings server waiting taken passes
   stepped _ old _ turns p (port_fails life t calls readings server waiting taken fails) g = port_failed first turns old.server old.waiting p g life t calls readings server waiting taken fails
   stepped _ old _ turns p (looks day at clear onward) g = looked_so first turns old.server old.waiting p g day at clear onward
-  stepped _ old _ turns p (renews header clear onward) g = renewed_so first turns old.server old.waiting p g header clear onward
+  stepped _ old _ turns p (begins_renewal header clear onward) g = renewal_begun first turns old.server old.waiting p g header clear onward
+  stepped _ old _ turns p (goes_on_renewing clear) g = renewal_on first turns old.server old.waiting p g
+  stepped _ old _ turns p (renews clear) g = renewed_so first turns old.server old.waiting p g
 
   pub ran : (seen : List Seen) (old new : Held) (turns : List Turn) (p : Past) → Chain Steps old seen new → Good first turns old.server old.waiting p → Goes first (turns ++ turns_in seen) new.server new.waiting p (calls_in seen)
   ran [] old new turns p chain g =
@@ -245,10 +266,12 @@ module _ (first : ServerValue) where
 
   -- a crash behind a call that is no failed renewal
   left_behind : (call : StoreCall) (calls : List StoreCall) (p : Past) (left : List Change) → May p (on_store call) → (m : MayLeaveAfter p.kept (call ∷ calls) left)
-      → (n : MayLeaveAfter (after_call call p.kept) calls left) × (last_left (last_by call p.last) n ≡ last_left p.last m)
-  left_behind call calls p left may (first_changes m) = (first_changes m, last_on_from call calls p.last)
-  left_behind call calls p left may (new_leases [] header rows e is) = let same : call ≡ renew_failed header rows = cc in absurd (subst (λ (c : StoreCall). May p (on_store c)) same may)
-  left_behind call calls p left may (new_leases (b ∷ before) header rows e is) = (new_leases before header rows (cc) is, refl)
+      → (n : MayLeaveAfter (after_call call p.kept) calls left) × (last_left (last_by call p.kept p.last) n ≡ last_left p.last m)
+  left_behind call calls p left may (first_changes m) = (first_changes m, refl)
+  left_behind call calls p left may (as_drafted [] draft e there is) = let same : call ≡ renewal_failed = cc in absurd (subst (λ (c : StoreCall). May p (on_store c)) same may)
+  left_behind call calls p left may (as_drafted (b ∷ before) draft e there is) =
+      let same : b ≡ call = cc in
+      (as_drafted before draft (cc) (subst (λ (c : StoreCall). (after_calls before (after_call c p.kept)).draft ≡ Some draft) same there) is, refl)
 
   not_renewed : (before : List StoreCall) (call : StoreCall) → [] ≡ before ++ call ∷ [] → ⊥
   not_renewed [] call e = absurd cc
@@ -256,7 +279,7 @@ module _ (first : ServerValue) where
 
   left_first : (turns : List Turn) (p : Past) (left : List Change) → Safe first turns p → (m : MayLeaveAfter p.kept [] left) → IsEarlier first turns p.gone (last_left p.last m) left
   left_first turns p left safe (first_changes m) = subst (IsEarlier first turns p.gone p.last) (sym m.left_is) (safe m.count m.at_least m.at_most)
-  left_first turns p left safe (new_leases before header rows e is) = absurd (not_renewed before (renew_failed header rows) e)
+  left_first turns p left safe (as_drafted before draft e there is) = absurd (not_renewed before renewal_failed e)
 
   pub crashed : (before behind : List DeviceCall) (turns : List Turn) (p : Past) (left : List Change) → Along first turns p (before ++ behind) → (m : MayLeaveAfter p.kept (stored_in before) left)
       → IsEarlier first turns (p.gone ++ gone_in before) (last_left p.last m) left

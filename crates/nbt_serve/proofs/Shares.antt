@@ -3,7 +3,7 @@ use Rattle.std.proofs.Common.{◌≡◌, ℕ, ◌+◌, ◌-◌, ◌<◌, ◌≤�
 use Rattle.std.specs.Prelude.{nat_eq, ◌&&◌, if◌then◌else◌}
 use Rattle.std.proofs.lemmas.Bool.{cases_Bool, eqb-true}
 use Rattle.nbt_store.specs.declared.room.Room.{Room}
-use Rattle.nbt_serve.specs.Sharing.{ShareValue, AsksForChange, Shares, SharesBy, has_room, has_no_room, has_no_limit, asks_for_none, is_within, is_beyond, has_no_memory, count_in, had, one_barred, second_of}
+use Rattle.nbt_serve.specs.Sharing.{ShareValue, AsksForChange, Shares, SharesBy, has_room, has_no_limit, asks_for_none, is_within, is_beyond, has_no_memory, count_in, had, one_barred, second_of}
 use Rattle.nbt_serve.specs.Inner.Sharing.{Admits, AdmitsBy, is_let_in, is_kept_out, is_free, is_counted, is_barred, IsHandled}
 use Rattle.nbt_serve.specs.declared.share.Admission.{Admission}
 use Rattle.nbt_serve.specs.declared.share.Admission.TheVariants as to

@@ -1,31 +1,27 @@
 -- The laws of whole runs.
-use Rattle.std.proofs.Common.{◌≡◌, ℕ, ◌≤◌, List, [], ◌∷◌, ◌++◌, Option, Some, None, refl, sym, ap, ◌∙◌, subst, arith}
+use Rattle.std.proofs.Common.{◌≡◌, ℕ, ◌+◌, ◌≤◌, List, [], ◌∷◌, ◌++◌, Option, Some, None, refl, sym, ap, ◌∙◌, subst, arith}
 use Rattle.std.proofs.lemmas.List.{append-nil}
 use Rattle.std.proofs.lemmas.List.Concat.{flat_map-append}
-use Rattle.nbt_lease.specs.Lease.{Rows}
 use Rattle.nbt_port.specs.declared.port.Route.{Route}
 use Rattle.nbt_port.specs.Memory.{DatagramValue}
 use Rattle.nbt_port.specs.PortCalls.{nothing_came, came, receive_failed, sent, send_failed, Chain}
 use Rattle.nbt_port.proofs.Chains.{chain-append}
 use Rattle.nbt_server.specs.Serving.{ServerValue}
 use Rattle.nbt_store.specs.declared.change.Change.{Change}
-use Rattle.nbt_store.specs.declared.header.Header.{Header}
 use Rattle.nbt_store.specs.declared.form.Form.TheVariants.{Three}
 use Rattle.nbt_store.specs.Lines.{AllStand}
-use Rattle.nbt_store.specs.Calls.{StoreCall, renew_failed, Kept, after_call, after_calls, MayLeaveAfter, first_changes, new_leases}
-use Rattle.nbt_store.specs.Changes.{after_all, no_leases, begun_all, last_of, MayLeave}
+use Rattle.nbt_store.specs.Calls.{StoreCall, renewal_failed, Draft, Kept, after_call, after_calls, MayLeaveAfter, first_changes, as_drafted}
+use Rattle.nbt_store.specs.Changes.{after_all, no_leases, last_of, MayLeave}
 use Rattle.nbt_serve.specs.Serving.{Turn, Turns}
 use Rattle.nbt_serve.specs.Changing.{IsKept}
 use Rattle.nbt_serve.specs.Devices.{DeviceCall, on_port, on_store}
 use Rattle.nbt_serve.specs.Waiting.{WaitingValue, durable_then}
 use Rattle.nbt_serve.specs.declared.waiting.Unsynced.{Unsynced}
-use Rattle.nbt_serve.specs.Turning.{Took, TakesAny}
-use Rattle.nbt_serve.specs.Runs.{Held, Seen, live_rows, Steps, takes_turn, port_fails, looks, renews, Ends, store_fails, look_fails, renewal_fails, Runs, goes_on, ends, calls_in, turn_of, turns_in, replies_in, stored_in, gone_in, last_after, last_left, Begins, AreAmong, nothing, IsEarlier, NoReplyPrecedesItsChange, CrashLeavesAnEarlierServer, ServersGoByTurns}
-use Rattle.nbt_serve.proofs.Left.{last_from, stand_begun}
+use Rattle.nbt_serve.specs.Turning.{Took, TakesAny, reach}
+use Rattle.nbt_serve.specs.Runs.{Held, Seen, Steps, takes_turn, port_fails, looks, begins_renewal, goes_on_renewing, renews, Ends, store_fails, look_fails, renewal_fails, Runs, goes_on, ends, calls_in, turn_of, turns_in, replies_in, stored_in, gone_in, last_by, last_after, last_left, Begins, AreAmong, nothing, IsEarlier, NoReplyPrecedesItsChange, CrashLeavesAnEarlierServer, ServersGoByTurns}
 use Rattle.nbt_serve.proofs.Among.{among_front}
-use Rattle.nbt_serve.proofs.Crashes.{Past, last_by, by_call, by_calls, datagrams, Along, Good, Goes, along_more, along-append, durable_good}
-use Rattle.nbt_serve.proofs.Runs.{gone_on, last_on_from, ran, store_failed, look_failed, crashed, sent_durable}
-use Rattle.nbt_serve.proofs.Renewed.{renewed_kept}
+use Rattle.nbt_serve.proofs.Crashes.{Past, Drafted, by_call, by_calls, datagrams, Along, Good, Goes, along_more, along-append, durable_good, then_later}
+use Rattle.nbt_serve.proofs.Runs.{gone_on, ran, store_failed, look_failed, crashed, sent_durable}
 
 -- ---- the servers alone
 
@@ -37,12 +33,14 @@ step_turns : (seen : Seen) (old new : Held) → Steps old seen new → Chain Tur
 step_turns _ old _ (takes_turn life t ahead calls readings server waiting takes passes) = (server, takes.server, refl)
 step_turns _ old _ (port_fails life t calls readings server waiting takes fails) = any_turn t old.server server takes
 step_turns _ old _ (looks day at clear onward) = refl
-step_turns _ old _ (renews header clear onward) = refl
+step_turns _ old _ (begins_renewal header clear onward) = refl
+step_turns _ old _ (goes_on_renewing clear) = refl
+step_turns _ old _ (renews clear) = refl
 
 end_turns : (seen : Seen) (old new : Held) → Ends old seen new → Chain Turns old.server (turn_of seen.took) new.server
 end_turns _ old _ (store_fails life t calls readings server waiting takes fails) = any_turn t old.server server takes
 end_turns _ old _ (look_fails day at calls clear onward fails) = refl
-end_turns _ old _ (renewal_fails header clear onward) = refl
+end_turns _ old _ (renewal_fails clear) = refl
 
 steps_turns : (seen : List Seen) (old new : Held) → Chain Steps old seen new → Chain Turns old.server (turns_in seen) new.server
 steps_turns [] old new chain = ap (λ (h : Held). h.server) chain
@@ -73,6 +71,7 @@ begun_good : (kept : Kept) (last : ℕ) (old : Held) → Begins kept last old �
 begun_good kept last old b =
     durable_good old.server [] old.server old.waiting (at_first kept last) refl b.leases b.stand (subst (λ (w : WaitingValue). AreAmong (datagrams w.replies) []) (sym b.clear) tt) b.all
     (subst (λ (u : Option Unsynced). durable_then old.waiting.durable u ≤ last_of last kept.changes) (sym (ap (λ (w : WaitingValue). w.unsynced) b.clear)) b.durable) b.soon
+    (subst (Drafted old.server (durable_then old.waiting.durable old.waiting.unsynced)) (sym b.alone) tt)
 
 steps_go : (kept : Kept) (last : ℕ) (old new : Held) (seen : List Seen) → Begins kept last old → Chain Steps old seen new → Goes old.server (turns_in seen) new.server new.waiting (at_first kept last) (calls_in seen)
 steps_go kept last old new seen b chain = ran old.server seen old new [] (at_first kept last) chain (begun_good kept last old b)
@@ -122,8 +121,8 @@ replies_follow kept last old new _ b (ends seen mid end _ chain (look_fails day 
     sent_durable old.server before behind to octets (turns_in (seen ++ end ∷ [])) (at_first kept last)
     (subst (Along old.server (turns_in (seen ++ end ∷ [])) (at_first kept last)) is
     (end_along kept last old mid seen end b chain (λ g. look_failed old.server (turns_in seen) mid.server mid.waiting _ g day at calls fails)))
-replies_follow kept last old new _ b (ends seen mid end _ chain (renewal_fails header clear onward)) before behind to octets is =
-    let failed : DeviceCall = on_store (renew_failed header (live_rows mid.server)) in
+replies_follow kept last old new _ b (ends seen mid end _ chain (renewal_fails clear)) before behind to octets is =
+    let failed : DeviceCall = on_store renewal_failed in
     let at = sent_inside (calls_in seen) failed before behind to octets (λ e. absurd cc) (split_last (calls_in seen) failed before (on_port (sent to octets) ∷ behind) (sym (calls_last seen (record { took = None; calls = failed ∷ [] })) ∙ is)) in
     sent_durable old.server before at.0 to octets (turns_in seen) (at_first kept last) (subst (Along old.server (turns_in seen) (at_first kept last)) at.1 (steps_go kept last old mid seen b chain).along)
 
@@ -132,37 +131,34 @@ replies_follow kept last old new _ b (ends seen mid end _ chain (renewal_fails h
 earlier_in : (first : ServerValue) (turns more : List Turn) (gone : List DatagramValue) (last : ℕ) (left : List Change) → turns ≡ more → IsEarlier first turns gone last left → IsEarlier first more gone last left
 earlier_in first turns more gone last left same e = subst (λ (ts : List Turn). IsEarlier first ts gone last left) same e
 
-failed_keeps : (calls : List StoreCall) (header : Header) (rows : Rows) (kept : Kept) → after_calls (calls ++ renew_failed header rows ∷ []) kept ≡ after_calls calls kept
-failed_keeps [] header rows kept = refl
-failed_keeps (call ∷ calls) header rows kept = failed_keeps calls header rows (after_call call kept)
+failed_keeps : (calls : List StoreCall) (kept : Kept) → after_calls (calls ++ renewal_failed ∷ []) kept ≡ after_calls calls kept
+failed_keeps [] kept = refl
+failed_keeps (call ∷ calls) kept = failed_keeps calls (after_call call kept)
 
-last_stays : (calls : List StoreCall) (header : Header) (rows : Rows) (last : ℕ) → last_after (calls ++ renew_failed header rows ∷ []) last ≡ last_after calls last
-last_stays [] header rows last = refl
-last_stays (call ∷ calls) header rows last = sym (last_on_from call (calls ++ renew_failed header rows ∷ []) last) ∙ (last_stays calls header rows (last_by call last) ∙ last_on_from call calls last)
+last_stays : (calls : List StoreCall) (kept : Kept) (last : ℕ) → last_after kept (calls ++ renewal_failed ∷ []) last ≡ last_after kept calls last
+last_stays [] kept last = refl
+last_stays (call ∷ calls) kept last = last_stays calls (after_call call kept) (last_by call kept last)
 
 none_behind : (xs : List StoreCall) (x : StoreCall) → xs ++ x ∷ [] ≡ [] → ⊥
 none_behind [] x e = absurd cc
 none_behind (y ∷ xs) x e = absurd cc
 
-last_call : (xs ys : List StoreCall) (x y : StoreCall) → xs ++ x ∷ [] ≡ ys ++ y ∷ [] → x ≡ y
-last_call [] [] x y e = cc
-last_call [] (z ∷ ys) x y e = let none : ys ++ y ∷ [] ≡ [] = cc in absurd (none_behind ys y none)
-last_call (z ∷ xs) [] x y e = let none : xs ++ x ∷ [] ≡ [] = cc in absurd (none_behind xs x none)
-last_call (w ∷ xs) (z ∷ ys) x y e = let rest : xs ++ x ∷ [] ≡ ys ++ y ∷ [] = cc in last_call xs ys x y rest
+-- the calls before the last
+all_before : (xs ys : List StoreCall) (x y : StoreCall) → xs ++ x ∷ [] ≡ ys ++ y ∷ [] → xs ≡ ys
+all_before [] [] x y e = refl
+all_before [] (z ∷ ys) x y e = let none : ys ++ y ∷ [] ≡ [] = cc in absurd (none_behind ys y none)
+all_before (z ∷ xs) [] x y e = let none : xs ++ x ∷ [] ≡ [] = cc in absurd (none_behind xs x none)
+all_before (w ∷ xs) (z ∷ ys) x y e = let rest : xs ++ x ∷ [] ≡ ys ++ y ∷ [] = cc in let first : w ≡ z = cc in ap (λ (c : StoreCall). c ∷ xs) first ∙ ap (λ (cs : List StoreCall). z ∷ cs) (all_before xs ys x y rest)
 
--- The failed renewal is the last call: it is as if it weren't, or its leases are left.
-data Renewal (kept : Kept) (calls : List StoreCall) (header : Header) (rows : Rows) (last : ℕ) (left : List Change) (time : ℕ) : Type 0 where
-  as_before : (m : MayLeaveAfter kept calls left) → last_left last m ≡ time → Renewal kept calls header rows last left time
-  as_new : left ≡ begun_all header.last rows → header.last ≡ time → Renewal kept calls header rows last left time
+-- The failed renewal is the last call: it is as if it weren't, or all of the new file is left.
+data Renewal (kept : Kept) (calls : List StoreCall) (last : ℕ) (left : List Change) (time : ℕ) : Type 0 where
+  as_before : (m : MayLeaveAfter kept calls left) → last_left last m ≡ time → Renewal kept calls last left time
+  as_new : (draft : Draft) → (after_calls calls kept).draft ≡ Some draft → left ≡ draft.changes → draft.last ≡ time → Renewal kept calls last left time
 
-renewal_left : (calls : List StoreCall) (header : Header) (rows : Rows) (kept : Kept) (last : ℕ) (left : List Change) (m : MayLeaveAfter kept (calls ++ renew_failed header rows ∷ []) left) → Renewal kept calls header rows last left (last_left last m)
-renewal_left calls header rows kept last left (first_changes m) =
-    as_before (first_changes (subst (λ (k : Kept). MayLeave k.changes k.durable left) (failed_keeps calls header rows kept) m)) (sym (last_stays calls header rows last))
-renewal_left calls header rows kept last left (new_leases before h r same is) =
-    let one : renew_failed h r ≡ renew_failed header rows = last_call before calls (renew_failed h r) (renew_failed header rows) (sym same) in
-    let head : h ≡ header = cc in
-    let row : r ≡ rows = cc in
-    as_new (is ∙ (ap (λ (k : Header). begun_all k.last r) head ∙ ap (begun_all header.last) row)) (ap (λ (k : Header). k.last) (sym head))
+renewal_left : (calls : List StoreCall) (kept : Kept) (last : ℕ) (left : List Change) (m : MayLeaveAfter kept (calls ++ renewal_failed ∷ []) left) → Renewal kept calls last left (last_left last m)
+renewal_left calls kept last left (first_changes m) = as_before (first_changes (subst (λ (k : Kept). MayLeave k.changes k.durable left) (failed_keeps calls kept) m)) (sym (last_stays calls kept last))
+renewal_left calls kept last left (as_drafted before draft same there is) =
+    as_new draft (subst (λ (cs : List StoreCall). (after_calls cs kept).draft ≡ Some draft) (sym (all_before calls before renewal_failed renewal_failed same)) there) is refl
 
 stored-append : (xs ys : List DeviceCall) → stored_in (xs ++ ys) ≡ stored_in xs ++ stored_in ys
 stored-append [] ys = refl
@@ -182,29 +178,36 @@ gone_by_is : (xs : List DeviceCall) (p : Past) → (by_calls xs p).gone ≡ p.go
 gone_by_is [] p = sym (append-nil p.gone)
 gone_by_is (x ∷ xs) p = gone_by_is xs (by_call x p) ∙ gone_on x xs p
 
+kept_by_is : (xs : List DeviceCall) (p : Past) → (by_calls xs p).kept ≡ after_calls (stored_in xs) p.kept
+kept_by_is [] p = refl
+kept_by_is (on_port nothing_came ∷ xs) p = kept_by_is xs p
+kept_by_is (on_port (came from octets) ∷ xs) p = kept_by_is xs p
+kept_by_is (on_port receive_failed ∷ xs) p = kept_by_is xs p
+kept_by_is (on_port (sent to octets) ∷ xs) p = kept_by_is xs (by_call (on_port (sent to octets)) p)
+kept_by_is (on_port (send_failed to octets) ∷ xs) p = kept_by_is xs (by_call (on_port (send_failed to octets)) p)
+kept_by_is (on_store call ∷ xs) p = kept_by_is xs (by_call (on_store call) p)
+
 -- a crash at the calls before the failed renewal, or within it
-in_renewal : (kept : Kept) (last : ℕ) (old mid : Held) (seen : List Seen) (header : Header) (before behind : List DeviceCall) (left : List Change) → Begins kept last old → Chain Steps old seen mid → mid.waiting.durable ≤ header.last
-    → Splits (calls_in seen) (on_store (renew_failed header (live_rows mid.server))) before behind → (m : MayLeaveAfter kept (stored_in before) left) → IsEarlier old.server (turns_in seen) (gone_in before) (last_left last m) left
-in_renewal kept last old mid seen header before behind left b chain onward (inside rest is end) m =
+in_renewal : (kept : Kept) (last : ℕ) (old mid : Held) (seen : List Seen) (before behind : List DeviceCall) (left : List Change) → Begins kept last old → Chain Steps old seen mid
+    → Splits (calls_in seen) (on_store renewal_failed) before behind → (m : MayLeaveAfter kept (stored_in before) left) → IsEarlier old.server (turns_in seen) (gone_in before) (last_left last m) left
+in_renewal kept last old mid seen before behind left b chain (inside rest is end) m =
     crashed old.server before rest (turns_in seen) (at_first kept last) left (subst (Along old.server (turns_in seen) (at_first kept last)) is (steps_go kept last old mid seen b chain).along) m
-in_renewal kept last old mid seen header before behind left b chain onward (at_end is none) m = by_end before is m
+in_renewal kept last old mid seen before behind left b chain (at_end is none) m = by_end before is m
   where
     calls : List DeviceCall
     calls = calls_in seen
 
-    rows : Rows
-    rows = live_rows mid.server
-
-    failed : StoreCall
-    failed = renew_failed header rows
-
     g : Goes old.server (turns_in seen) mid.server mid.waiting (at_first kept last) calls
     g = steps_go kept last old mid seen b chain
 
-    by_kind : (time : ℕ) → Renewal kept (stored_in calls) header rows last left time → IsEarlier old.server (turns_in seen) (gone_in calls) time left
+    -- what the new file has
+    drafted : (draft : Draft) → (after_calls (stored_in calls) kept).draft ≡ Some draft → Drafted mid.server (durable_then mid.waiting.durable mid.waiting.unsynced) (Some draft)
+    drafted draft there = subst (Drafted mid.server (durable_then mid.waiting.durable mid.waiting.unsynced)) (ap (λ (k : Kept). k.draft) (kept_by_is calls (at_first kept last)) ∙ there) g.good.drafted
+
+    by_kind : (time : ℕ) → Renewal kept (stored_in calls) last left time → IsEarlier old.server (turns_in seen) (gone_in calls) time left
     by_kind time (as_before n same) =
         subst (λ (l : ℕ). IsEarlier old.server (turns_in seen) (gone_in calls) l left) same (crashed old.server calls [] (turns_in seen) (at_first kept last) left (subst (Along old.server (turns_in seen) (at_first kept last)) (sym (append-nil calls)) g.along) n)
-    by_kind time (as_new all same) = record {
+    by_kind time (as_new draft there all same) = record {
       front = turns_in seen;
       back = [];
       asked = [];
@@ -213,24 +216,26 @@ in_renewal kept last old mid seen header before behind left b chain onward (at_e
       some = nothing;
       answers = tt;
       run = subst (λ (ts : List Turn). Chain Turns old.server ts mid.server) (sym (append-nil (turns_in seen))) g.good.run;
-      leases = subst (λ (cs : List Change). IsKept (after_all cs no_leases) mid.server) (sym all) (renewed_kept mid.server (after_all (by_calls calls (at_first kept last)).kept.changes no_leases) header.last g.good.leases);
-      stand = subst (λ (cs : List Change). AllStand Three cs no_leases) (sym all) (stand_begun header.last rows no_leases);
+      leases = subst (λ (cs : List Change). IsKept (after_all cs no_leases) mid.server) (sym all) (drafted draft there).0;
+      stand = subst (λ (cs : List Change). AllStand Three cs no_leases) (sym all) (drafted draft there).1;
       replies =
           subst (λ (ts : List Turn). AreAmong (gone_in calls) (replies_in ts)) (sym (append-nil (turns_in seen)))
           (among_front (gone_in calls) (datagrams mid.waiting.replies) (replies_in (turns_in seen))
           (subst (λ (ds : List DatagramValue). AreAmong (ds ++ datagrams mid.waiting.replies) (replies_in (turns_in seen))) (gone_by_is calls (at_first kept last)) g.good.replies));
-      soon = let l = last_from time left in let s = g.good.soon in omega (arith, l, s, onward, same);
+      soon =
+          subst (λ (cs : List Change). mid.server.last ≤ last_of time cs + reach) (sym all)
+          (subst (λ (l : ℕ). mid.server.last ≤ last_of l draft.changes + reach) same (let l = then_later mid.waiting.durable mid.waiting.unsynced in let d = (drafted draft there).2 in let s = g.good.soon in omega (arith, l, d, s)));
     }
 
-    by_end : (before : List DeviceCall) → before ≡ calls ++ on_store failed ∷ [] → (m : MayLeaveAfter kept (stored_in before) left) → IsEarlier old.server (turns_in seen) (gone_in before) (last_left last m) left
+    by_end : (before : List DeviceCall) → before ≡ calls ++ on_store renewal_failed ∷ [] → (m : MayLeaveAfter kept (stored_in before) left) → IsEarlier old.server (turns_in seen) (gone_in before) (last_left last m) left
     by_end before is m =
-        let stored : stored_in before ≡ stored_in calls ++ failed ∷ [] = ap stored_in is ∙ stored-append calls (on_store failed ∷ []) in
-        subst (λ (ds : List DatagramValue). IsEarlier old.server (turns_in seen) ds (last_left last m) left) (sym (ap gone_in is ∙ gone_same calls failed)) (by_calls_of (stored_in before) stored m)
+        let stored : stored_in before ≡ stored_in calls ++ renewal_failed ∷ [] = ap stored_in is ∙ stored-append calls (on_store renewal_failed ∷ []) in
+        subst (λ (ds : List DatagramValue). IsEarlier old.server (turns_in seen) ds (last_left last m) left) (sym (ap gone_in is ∙ gone_same calls renewal_failed)) (by_calls_of (stored_in before) stored m)
       where
-        renewal_as : (stored : List StoreCall) → stored ≡ stored_in calls ++ failed ∷ [] → (m : MayLeaveAfter kept stored left) → Renewal kept (stored_in calls) header rows last left (last_left last m)
-        renewal_as stored is m = subst (λ (cs : List StoreCall). (n : MayLeaveAfter kept cs left) → Renewal kept (stored_in calls) header rows last left (last_left last n)) (sym is) (renewal_left (stored_in calls) header rows kept last left) m
+        renewal_as : (stored : List StoreCall) → stored ≡ stored_in calls ++ renewal_failed ∷ [] → (m : MayLeaveAfter kept stored left) → Renewal kept (stored_in calls) last left (last_left last m)
+        renewal_as stored is m = subst (λ (cs : List StoreCall). (n : MayLeaveAfter kept cs left) → Renewal kept (stored_in calls) last left (last_left last n)) (sym is) (renewal_left (stored_in calls) kept last left) m
 
-        by_calls_of : (stored : List StoreCall) → stored ≡ stored_in calls ++ failed ∷ [] → (m : MayLeaveAfter kept stored left) → IsEarlier old.server (turns_in seen) (gone_in calls) (last_left last m) left
+        by_calls_of : (stored : List StoreCall) → stored ≡ stored_in calls ++ renewal_failed ∷ [] → (m : MayLeaveAfter kept stored left) → IsEarlier old.server (turns_in seen) (gone_in calls) (last_left last m) left
         by_calls_of stored is m = by_kind (last_left last m) (renewal_as stored is m)
 
 pub crash_leaves : CrashLeavesAnEarlierServer
@@ -244,7 +249,7 @@ crash_leaves kept last old new _ b (ends seen mid end _ chain (look_fails day at
     crashed old.server before behind (turns_in (seen ++ end ∷ [])) (at_first kept last) left
     (subst (Along old.server (turns_in (seen ++ end ∷ [])) (at_first kept last)) is
     (end_along kept last old mid seen end b chain (λ g. look_failed old.server (turns_in seen) mid.server mid.waiting _ g day at calls fails))) m
-crash_leaves kept last old new _ b (ends seen mid end _ chain (renewal_fails header clear onward)) before behind left is m =
-    let failed : DeviceCall = on_store (renew_failed header (live_rows mid.server)) in
+crash_leaves kept last old new _ b (ends seen mid end _ chain (renewal_fails clear)) before behind left is m =
+    let failed : DeviceCall = on_store renewal_failed in
     earlier_in old.server (turns_in seen) _ (gone_in before) (last_left last m) left (sym (turns_last seen end ∙ append-nil (turns_in seen)))
-    (in_renewal kept last old mid seen header before behind left b chain onward (split_last (calls_in seen) failed before behind (sym (calls_last seen (record { took = None; calls = failed ∷ [] })) ∙ is)) m)
+    (in_renewal kept last old mid seen before behind left b chain (split_last (calls_in seen) failed before behind (sym (calls_last seen (record { took = None; calls = failed ∷ [] })) ∙ is)) m)

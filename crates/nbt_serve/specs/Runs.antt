@@ -14,8 +14,8 @@ use Rattle.nbt_packet.specs.Text.{text}
 use Rattle.nbt_store.specs.declared.change.Change.TheVariants.{Looked}
 use Rattle.nbt_store.specs.Lines.{AllStand}
 use Rattle.nbt_store.specs.declared.form.Form.TheVariants.{Three}
-use Rattle.nbt_store.specs.Calls.{StoreCall, renewed, renew_failed, Kept, after_calls, MayLeaveAfter, first_changes, new_leases}
-use Rattle.nbt_store.specs.Changes.{after_all, no_leases, last_of, MayLeave}
+use Rattle.nbt_store.specs.Calls.{StoreCall, renewal_began, renewal_went_on, renewed, renewal_failed, Draft, Kept, after_call, after_calls, MayLeaveAfter, first_changes, as_drafted}
+use Rattle.nbt_store.specs.Changes.{after_all, begun_all, no_leases, last_of, MayLeave}
 use Rattle.nbt_serve.specs.Serving.{Turn, Turns}
 use Rattle.nbt_serve.specs.Changing.{IsKept}
 use Rattle.nbt_serve.specs.Devices.{DeviceCall, on_port, on_store}
@@ -39,8 +39,9 @@ pub record Seen : Type 0 where
 abbrev pub live_rows : ServerValue → Rows
 live_rows server = filter (λ row. is_live server.last row.1) server.table.rows
 
--- A step after which the server goes on: a turn, also one in which the port fails; or, where no reply waits, and at a moment that isn't
--- before the durable time, a line of both clocks becomes durable, or its live leases are written in place of all that is kept.
+-- A step after which the server goes on: a turn, also one in which the port fails; or, where no reply waits and all is durable, a line of both
+-- clocks becomes durable, at a moment that isn't before the durable time, a new file is begun of its live leases, with such a moment as LAST, that
+-- is gone on with, or it takes the file's place.
 pub data Steps (old : Held) : Seen → Held → Type 0 where
   takes_turn : (life : ℕ) (took : Took) (ahead : Bool) (calls : List DeviceCall) (readings : List ℕ) (server : ServerValue) (waiting : WaitingValue) → Takes old.server took server → Passes life old.waiting took ahead calls readings waiting
       → Steps old (record { took = Some took; calls = calls }) (record { server = server; waiting = waiting })
@@ -48,8 +49,10 @@ pub data Steps (old : Held) : Seen → Held → Type 0 where
       → Steps old (record { took = took; calls = calls }) (record { server = server; waiting = waiting })
   looks : (day at : ℕ) → IsClear old.waiting → old.waiting.durable ≤ at
       → Steps old (record { took = None; calls = map on_store (lay_down (Looked day at)) }) (record { server = old.server; waiting = none_waits at })
-  renews : (header : Header) → IsClear old.waiting → old.waiting.durable ≤ header.last
-      → Steps old (record { took = None; calls = on_store (renewed header (live_rows old.server)) ∷ [] }) (record { server = old.server; waiting = none_waits header.last })
+  begins_renewal : (header : Header) → IsClear old.waiting → old.waiting.durable ≤ header.last
+      → Steps old (record { took = None; calls = on_store (renewal_began header (begun_all header.last (live_rows old.server))) ∷ [] }) old
+  goes_on_renewing : IsClear old.waiting → Steps old (record { took = None; calls = on_store renewal_went_on ∷ [] }) old
+  renews : IsClear old.waiting → Steps old (record { took = None; calls = on_store renewed ∷ [] }) old
 
 -- A step in which the store fails, which is the last.
 pub data Ends (old : Held) : Seen → Held → Type 0 where
@@ -57,7 +60,7 @@ pub data Ends (old : Held) : Seen → Held → Type 0 where
       → Ends old (record { took = took; calls = calls }) (record { server = server; waiting = waiting })
   look_fails : (day at : ℕ) (calls : List StoreCall) → IsClear old.waiting → old.waiting.durable ≤ at → LineFails (Looked day at) calls
       → Ends old (record { took = None; calls = map on_store calls }) (record { server = old.server; waiting = dropped (with_line (Looked day at) old.waiting) })
-  renewal_fails : (header : Header) → IsClear old.waiting → old.waiting.durable ≤ header.last → Ends old (record { took = None; calls = on_store (renew_failed header (live_rows old.server)) ∷ [] }) old
+  renewal_fails : IsClear old.waiting → Ends old (record { took = None; calls = on_store renewal_failed ∷ [] }) old
 
 pub data Runs (old : Held) : List Seen → Held → Type 0 where
   goes_on : (seen : List Seen) (new : Held) → Chain Steps old seen new → Runs old seen new
@@ -91,25 +94,35 @@ gone_in (on_port (sent to octets) ∷ calls) = record { route = to; octets = oct
 gone_in (on_port (send_failed to octets) ∷ calls) = record { route = to; octets = octets } ∷ gone_in calls
 gone_in (call ∷ calls) = gone_in calls
 
--- LAST of the file's header, after these calls of the store
-abbrev pub last_after : List StoreCall → (last : ℕ) → ℕ
-last_after [] last = last
-last_after (renewed header rows ∷ calls) last = last_after calls header.last
-last_after (call ∷ calls) last = last_after calls last
+-- LAST of the header of a new file, if there is one
+abbrev pub last_drafted : Option Draft → (otherwise : ℕ) → ℕ
+last_drafted None otherwise = otherwise
+last_drafted (Some draft) otherwise = draft.last
 
--- LAST of the file that a crash leaves: of the one that was renewed last, if that didn't fail
+-- LAST of the file's header, after a call of the store: where a new file takes its place, of that one's
+abbrev pub last_by : StoreCall → Kept → (last : ℕ) → ℕ
+last_by renewed kept last = last_drafted kept.draft last
+last_by call kept last = last
+
+-- and after these
+abbrev pub last_after : Kept → List StoreCall → (last : ℕ) → ℕ
+last_after kept [] last = last
+last_after kept (call ∷ calls) last = last_after (after_call call kept) calls (last_by call kept last)
+
+-- LAST of the file that a crash leaves: also of the new file that was last to take its place, where that failed
 abbrev pub last_left : {kept : Kept} {calls : List StoreCall} {left : List Change} → (last : ℕ) → MayLeaveAfter kept calls left → ℕ
-last_left {calls = calls} last (first_changes may) = last_after calls last
-last_left last (new_leases before header rows calls_are left_is) = header.last
+last_left {kept = kept} {calls = calls} last (first_changes may) = last_after kept calls last
+last_left last (as_drafted before draft calls_are there left_is) = draft.last
 
 -- ---- the laws
 
--- A run begins: no reply waits, the store has the server's live leases, all of them durable and each that moved or went was there, and the server's time isn't more than 1,000 ms past
+-- A run begins: no reply waits, the store has the server's live leases and no new file, all of them durable and each that moved or went was there, and the server's time isn't more than 1,000 ms past
 -- the last durable one. `last` is LAST of the file's header.
 pub record Begins (kept : Kept) (last : ℕ) (held : Held) : Type 0 where
   pub leases : IsKept (after_all kept.changes no_leases) held.server
   pub stand : AllStand Three kept.changes no_leases
   pub all : kept.durable ≡ length kept.changes
+  pub alone : kept.draft ≡ None
   pub clear : IsClear held.waiting
   pub durable : held.waiting.durable ≤ last_of last kept.changes
   pub soon : held.server.last ≤ held.waiting.durable + reach

@@ -1,12 +1,13 @@
 //! Looking after the file that has a server's leases.
 
-ghost use Rattle.std.specs.Prelude.{◌≡◌, OnOk, OnErr, IsTrue, List, ◌||◌, MatchResult};
+ghost use Rattle.std.specs.Prelude.{◌≡◌, OnOk, OnErr, IfOk, IfSome, IsTrue, List, ◌||◌, MatchResult};
 ghost use Rattle.nbt_port.specs.PortCalls.{Chain};
-ghost use Rattle.nbt_store.specs.Calls.{StoreCall, renewing};
+ghost use Rattle.nbt_store.specs.Calls.{StoreCall, renewal_began, renewal_failed};
+ghost use Rattle.nbt_store.specs.Changes.{begun_all};
 ghost use Rattle.nbt_store.specs.declared.change.Change.TheVariants.{Looked};
 ghost use Rattle.nbt_serve.specs.Waiting.{none_waits, with_line, dropped, lay_down, laid_down, LineFails};
 ghost use Rattle.nbt_serve.specs.Runs.{live_rows};
-ghost use Rattle.nbt_serve.specs.Looking.{is_line_due, header_at, LooksAfter, FailsToLook};
+ghost use Rattle.nbt_serve.specs.Looking.{is_line_due, header_at, LooksAfter, FailsToLook, FailsToBegin, GoesOn};
 
 use crate::waiting::Waiting;
 use nbt_lease::{Lease, Moment};
@@ -15,13 +16,15 @@ use nbt_port::Clock;
 use nbt_server::Server;
 use nbt_store::{Broken, Change, Header, Store, bears_out};
 use std::alloc::AllocError;
+use std::collections::VecDeque;
 
 /// Looks after the file at a moment, where no reply waits, and the moment isn't before the last durable time. It reads the time of
-/// day. Where the file has several times as many lines as leases with which it was written, it writes the server's live leases anew;
-/// where memory is refused for that, or there is no room, the next look tries again. Else a line says what both clocks tell, and becomes durable, where a
+/// day, and does one thing at most, and none where the store has room for no line. A line says what both clocks tell, and becomes durable, where a
 /// quarter of the longest lease passed since the last durable time, or the time of day doesn't bear the moment out
-/// since the pair of the header, as [`bears_out`] says. Where the store has room for no line, neither is done. Of what is written last the header has the moment and the time of day.
-/// Refused with `Broken` if the store fails. `rows` is a buffer.
+/// since the pair of the header, as [`bears_out`] says; the header has the moment and the time of day then. A new file that was begun is gone on
+/// with, by one part, and once it is whole it takes the file's place. Where the file has several times as many lines as leases with which it was written,
+/// such a line becomes durable too, and a new file is begun of the server's live leases; where memory is refused for that, or there is no room, or not yet,
+/// a later look tries again. Refused with `Broken` if the store fails. `rows` is a buffer.
 pub fn look_after<S: Store, D: Clock>(
     store: &mut S,
     day: &mut D,
@@ -45,44 +48,84 @@ pub fn look_after<S: Store, D: Clock>(
     if store.room().is_spent() {
         return Ok(());
     }
-    if is_wanted(store, rows, server) {
-        return renew(store, header, rows.as_slice(), waiting, at, time);
-    }
     if is_line_due(header, waiting.durable(), at, time) {
         return lay_down_look(store, header, waiting, at, time);
+    }
+    if store.is_renewing() {
+        return go_on(store);
+    }
+    if let Some(changes) = wanted(store, rows, server, at) {
+        return begin(store, header, changes, waiting, at, time);
     }
     Ok(())
 }
 
-/// Whether the live leases are to be written anew; they are then listed.
-fn is_wanted<S: Store>(store: &S, rows: &mut Vec<(Name, Lease)>, server: &Server) -> bool
-    ensures { IsTrue result → rows.new.items ≡ live_rows server.now }
+/// Goes on with the new file by one part.
+fn go_on<S: Store>(store: &mut S) -> Result<(), Broken>
+    ensures { MatchResult result (λ _. GoesOn S.does store.old store.new) (λ _. S.does store.old renewal_failed store.new) }
 {
-    if !store.is_long() || !store.can_renew() {
-        return false;
-    }
-    list_live(server, rows).is_ok()
+    store.go_on()?;
+    Ok(())
 }
 
-/// Writes these leases in place of all that is kept, at this moment and time of day.
-fn renew<S: Store>(
+/// The changes by which the live leases began at a moment, where a new file is to be begun of them; `None` where not, and where memory is refused.
+fn wanted<S: Store>(
+    store: &S,
+    rows: &mut Vec<(Name, Lease)>,
+    server: &Server,
+    at: Moment,
+) -> Option<VecDeque<Change>>
+    ensures { IfSome result (λ changes. changes.items ≡ begun_all at (live_rows server.now)) }
+{
+    if !store.is_long() || !store.can_renew() {
+        return None;
+    }
+    list_begun(server, rows, at).ok()
+}
+
+/// The changes by which the live leases of a server began at a moment. Refused where it is out of memory. `rows` is a buffer.
+fn list_begun(
+    server: &Server,
+    rows: &mut Vec<(Name, Lease)>,
+    at: Moment,
+) -> Result<VecDeque<Change>, AllocError>
+    ensures { IfOk result (λ changes. changes.items ≡ begun_all at (live_rows server.now)) }
+{
+    list_live(server, rows)?;
+    begun_of(rows, at)
+}
+
+/// The changes by which these leases began at a moment.
+fn begun_of(rows: &Vec<(Name, Lease)>, at: Moment) -> Result<VecDeque<Change>, AllocError>
+    ensures { IfOk result (λ changes. changes.items ≡ begun_all at rows.now.items) }
+{
+    let mut changes = VecDeque::with_capacity(*rows.allocator(), rows.len())?;
+    for row in rows {
+        let (name, lease) = row;
+        changes.push_back(Change::Began {
+            name: name.copy(),
+            lease: *lease,
+            at: at.get(),
+        })?;
+    }
+    Ok(changes)
+}
+
+/// Has the store append a line of this moment and time of day, which becomes durable, and begins a new file of these changes with such a header.
+fn begin<S: Store>(
     store: &mut S,
     header: &mut Header,
-    rows: &[(Name, Lease)],
+    changes: VecDeque<Change>,
     waiting: &mut Waiting,
     at: Moment,
     time: Moment,
 ) -> Result<(), Broken>
     ensures header { header.new ≡ header_at header.old at time }
-    ensures did { S.does store.old (renewing header.new rows.now result) store.new }
-    ensures ok { OnOk result (waiting.new ≡ record waiting.old { durable = at }) }
-    ensures err { OnErr result (waiting.new ≡ waiting.old) }
+    ensures ok { OnOk result ((mid : S) × Chain S.does store.old (lay_down (Looked time at)) mid × S.does mid (renewal_began header.new changes.items) store.new × (waiting.new ≡ laid_down (Looked time at) waiting.old)) }
+    ensures err { OnErr result (FailsToBegin S.does (Looked time at) waiting.old store.old store.new waiting.new) }
 {
-    header.last = at.get();
-    header.day = time.get();
-    store.renew(header, rows)?;
-    waiting.renewed(at);
-    Ok(())
+    lay_down_look(store, header, waiting, at, time)?;
+    store.begin_renewal(header, changes)
 }
 
 /// Has the store append a line of this moment and time of day, which becomes durable.

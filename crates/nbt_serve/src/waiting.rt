@@ -175,13 +175,6 @@ impl Waiting {
         u128::from(self.durable) + u128::from(REACH) < u128::from(now.get())
     }
 
-    /// The file was written anew at a time: all is durable up to then.
-    pub(crate) fn renewed(&mut self, at: Moment)
-        ensures { self.new ≡ record self.old { durable = at } }
-    {
-        self.durable = at.get();
-    }
-
     /// One datagram more came, where a change isn't durable.
     fn count(&mut self)
         ensures { self.new ≡ counted self.old }
