@@ -6,6 +6,7 @@ use nbt_lease::Lease;
 use nbt_name::Name;
 use nbt_store::{Broken, Change, DiskStore, Header, Room, Store, Syncs, SystemDisk};
 use std::alloc::Global;
+use std::collections::VecDeque;
 use std::marker::Model;
 use std::rt::Files;
 use std::{io, time};
@@ -55,8 +56,16 @@ impl<M: Files + time::Clock> Store for FolderStore<'_, M> {
         self.store.sync()
     }
 
-    fn renew(&mut self, header: &Header, rows: &[(Name, Lease)]) -> Result<(), Broken> {
-        self.store.renew(header, rows)
+    fn begin_renewal(&mut self, header: &Header, changes: VecDeque<Change>) -> Result<(), Broken> {
+        self.store.begin_renewal(header, changes)
+    }
+
+    fn go_on(&mut self) -> Result<bool, Broken> {
+        self.store.go_on()
+    }
+
+    fn is_renewing(&self) -> bool {
+        self.store.is_renewing()
     }
 
     fn is_long(&self) -> bool {

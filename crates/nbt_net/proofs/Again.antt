@@ -140,6 +140,7 @@ begins_run law b rows well = record {
   leases = let kept = law b.server (leases_at b.server.last b.server.table.rows) b.header.last (own_kept b well) in record { apart = kept.apart; live = kept.live };
   stand = all_begun_stand b.header.last (live_rows b.server) no_leases;
   all = refl;
+  alone = refl;
   clear = refl;
   durable = no_earlier b.header.last (begun_all b.header.last (live_rows b.server));
   soon = well.soon;
