@@ -47,7 +47,7 @@ pub trait Disk {
         true
     }
 
-    /// How often [`Disk::sync`] went well, and how long that took, where the disk knows it.
+    /// How often octets became durable, and how long that took, where the disk knows it.
     fn syncs(&self) -> Syncs {
         Syncs::NONE
     }

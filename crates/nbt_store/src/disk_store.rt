@@ -26,12 +26,25 @@ const TIMES: usize = 4;
 /// A file of so many lines, or fewer, is never long (our profile).
 const LINES_LEAST: usize = 1_024;
 
+/// For each lease that its server may have a file gets no more lines than this, and these more (our profile).
+const LINES_A_ROW: u64 = 8;
+
+const LINES_MORE: u64 = 8_192;
+
+/// So many lines a file has at most, where its server may have so many leases. One that couldn't be written anew so long, as where memory is
+/// refused for that, takes no more changes.
+pub(crate) fn lines_most(rows: u64) -> u64 {
+    rows.saturating_mul(LINES_A_ROW).saturating_add(LINES_MORE)
+}
+
 /// A store over a disk: its file has the lines of the leases with which it was written, and one for each change since. After a
 /// call that failed the store is broken: each later call is refused, and asks nothing of the disk. The store knows the checksum of the
 /// last line, from which that of the next goes on. A new file is written beside it part by part, and meanwhile each change has a line in both.
 #[derive(Drop)]
 pub struct DiskStore<D> {
     disk: D,
+    /// The most leases that its server may have.
+    rows: u64,
     written: usize,
     lines: usize,
     sum: u32,
@@ -55,6 +68,7 @@ impl<D: Disk + Drop> DiskStore<D> {
         let sum = write_anew(alloc, header, rows, &mut disk)?;
         Ok(DiskStore {
             disk,
+            rows: header.rows,
             written: rows.len(),
             lines: rows.len(),
             sum,
@@ -263,9 +277,14 @@ impl<D: Disk> Store for DiskStore<D> {
         self.error.as_ref()
     }
 
-    /// What the disk says of it.
+    /// What the disk says of it; but room for times alone, where the file has as many lines as it may.
     fn room(&self) -> Room {
-        self.disk.room()
+        let room = self.disk.room();
+        if room.is_ample() && self.lines as u64 >= lines_most(self.rows) {
+            Room::Scarce
+        } else {
+            room
+        }
     }
 
     /// What the disk says of it.

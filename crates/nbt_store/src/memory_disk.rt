@@ -70,12 +70,6 @@ impl Written {
         }
     }
 
-    /// Writes octets, and makes all of it durable, with this trouble.
-    fn write_all(&mut self, octets: &[u8], trouble: Option<Trouble>) -> io::Result<()> {
-        self.write(octets, most(trouble))?;
-        self.sync(trouble)
-    }
-
     /// How many cuts of it a crash may leave.
     fn cuts(&self) -> usize {
         self.octets
@@ -109,7 +103,7 @@ impl MemoryDisk {
         self.room.set(room);
     }
 
-    /// How many calls there have been.
+    /// How many calls there have been: a write of a new file is one, and that it becomes durable is another.
     pub fn calls(&self) -> usize {
         self.calls
     }
@@ -149,18 +143,20 @@ impl Disk for MemoryDisk {
     ghost does = { λ _ _ _. ⊤ };
 
     fn create(&mut self, octets: &[u8]) -> io::Result<()> {
-        let trouble = self.next_trouble();
         self.installing = false;
-        let mut new = Written::empty(self.alloc);
-        let done = new.write_all(octets, trouble);
-        self.new = Some(new);
-        done
+        self.new = Some(Written::empty(self.alloc));
+        self.append_beside(octets)
     }
 
     fn append_beside(&mut self, octets: &[u8]) -> io::Result<()> {
         let trouble = self.next_trouble();
         match &mut self.new {
-            Some(new) => new.write_all(octets, trouble),
+            Some(new) => new.write(octets, most(trouble))?,
+            None => return Err(failure()),
+        }
+        let trouble = self.next_trouble();
+        match &mut self.new {
+            Some(new) => new.sync(trouble),
             None => Err(failure()),
         }
     }

@@ -14,8 +14,8 @@ pub(crate) const ROOM_PART: u64 = 1 << 16;
 /// Where fewer are left the file gets room anew; where the disk has none, what is left is for times alone (our profile).
 const LEAST: u64 = ROOM / 2;
 
-/// Where fewer are left there is room for no line (our profile): the longest has fewer.
-const LAST: u64 = 4_096;
+/// A line has fewer octets (our profile). Where fewer are left there is room for none.
+pub(crate) const LINE_MOST: u64 = 4_096;
 
 /// For so many milliseconds after a disk had no room it isn't asked again (our profile).
 pub(crate) const PAUSE: u64 = 1_000;
@@ -33,7 +33,7 @@ const SECTOR: usize = 512;
 pub(crate) fn room_of(left: u64) -> Room {
     if left >= LEAST {
         Room::Ample
-    } else if left >= LAST {
+    } else if left >= LINE_MOST {
         Room::Scarce
     } else {
         Room::Spent

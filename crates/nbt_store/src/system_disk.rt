@@ -6,11 +6,14 @@ ghost use Rattle.std.specs.Prelude.{⊤};
 
 use crate::boot::Boot;
 use crate::disk::Disk;
+use crate::disk_store::lines_most;
 use crate::room::Room;
 use crate::spare::{
-    PAUSE, PAUSE_BESIDE, ROOM, ROOM_PART, is_full, is_little, room_of, without_room, write_zeros,
+    LINE_MOST, PAUSE, PAUSE_BESIDE, ROOM, ROOM_PART, is_full, is_little, room_of, without_room,
+    write_zeros,
 };
 use crate::syncs::Syncs;
+use nbt_lease::ROWS_MOST;
 use std::alloc::Global;
 use std::cell::Cell;
 use std::fs::{File, Metadata, OpenFile, Permissions};
@@ -35,9 +38,6 @@ pub const OTHER_LOCK: &str = "lock is another file";
 
 /// So many octets of it are read at most: more than it says.
 pub const LOCK_MOST: usize = 64;
-
-/// A file has fewer octets: this is more than any store writes (our profile).
-const FILE_MOST: u64 = 1 << 26;
 
 /// Where Linux has the id of the boot.
 const BOOT_ID: &str = "/proc/sys/kernel/random/boot_id";
@@ -171,7 +171,7 @@ impl<'a, R: Files> SystemDisk<'a, R> {
 }
 
 /// The octets of the file of leases at a path, without its room; `None` where there is none. Refused where it is no regular file, or has
-/// 64 MiB or more; or if out of memory.
+/// more octets than a store writes of the most leases; or if out of memory.
 pub fn leases_at<R: Files>(machine: &R, alloc: Global, path: &str) -> io::Result<Option<Vec<u8>>> {
     check_kind(machine, path, "leases is no regular file")?;
     match octets_of(machine, alloc, path) {
@@ -251,13 +251,12 @@ impl<R: Files + time::Clock> SystemDisk<'_, R> {
 
     /// The new file that is getting its room; a new one, where there is none.
     fn open_prepared(&self) -> io::Result<R::File> {
-        let path = self.new_path.as_str();
-        check_new(self.machine, path)?;
+        check_new(self.machine, self.new_path.as_str())?;
         if let Some(mark) = self.prepared.get() {
-            return opened_as(self.machine, path, mark);
+            return opened_as(self.machine, self.new_path.as_str(), mark);
         }
         self.check()?;
-        let file = new_file(self.machine, path)?;
+        let file = new_file(self.machine, self.new_path.as_str())?;
         self.prepared.set(Some(Mark::of(&file.metadata()?)));
         Ok(file)
     }
@@ -318,13 +317,20 @@ fn check_mark<R: Files>(machine: &R, path: &str, mark: Mark) -> io::Result<()> {
     }
 }
 
-/// The octets of a file. Refused where it has 64 MiB or more.
+/// A file has fewer octets: this is more than any store writes, by the lines that it has at most where a server has as many leases as it may.
+fn file_most() -> u64 {
+    lines_most(ROWS_MOST as u64)
+        .saturating_mul(LINE_MOST)
+        .saturating_add(ROOM)
+}
+
+/// The octets of a file. Refused where it has more than a store writes.
 fn octets_of<R: Files>(machine: &R, alloc: Global, path: &str) -> io::Result<Vec<u8>> {
     let mut octets = Vec::new(alloc);
     File::open(machine, path)?
-        .take(FILE_MOST)
+        .take(file_most())
         .read_to_end(&mut octets)?;
-    if octets.len() as u64 >= FILE_MOST {
+    if octets.len() as u64 >= file_most() {
         return Err(io::Error::other("the file is too long"));
     }
     Ok(octets)
@@ -420,7 +426,9 @@ impl<'a, R: Files + time::Clock> Disk for SystemDisk<'a, R> {
         file.write_all(octets)?;
         let lines = octets.len() as u64;
         let size = add_room(&mut file, lines)?;
+        let before = self.machine.monotonic();
         file.sync_data()?;
+        self.syncs.add(before, self.machine.monotonic());
         let mark = Mark::of(&file.metadata()?);
         self.beside = Some(Beside {
             file,
@@ -436,11 +444,14 @@ impl<'a, R: Files + time::Clock> Disk for SystemDisk<'a, R> {
         beside.file.write_all(octets)?;
         beside.lines = beside.lines.saturating_add(octets.len() as u64);
         beside.size = beside.size.max(beside.lines);
-        beside.file.sync_data()
+        let before = self.machine.monotonic();
+        beside.file.sync_data()?;
+        self.syncs.add(before, self.machine.monotonic());
+        Ok(())
     }
 
     fn install(&mut self) -> io::Result<()> {
-        self.check_lock()?;
+        self.check()?;
         let beside = self
             .beside
             .take()
