@@ -1,5 +1,5 @@
 -- The log of a server that is watched, and the files about it (our profile).
-use Rattle.std.specs.Prelude.{◌≡◌, ℕ, ◌-◌, List, Option, Some, None}
+use Rattle.std.specs.Prelude.{◌≡◌, ◌≢◌, ℕ, ◌-◌, List, Option, Some, None}
 use Rattle.nbt_server.specs.Serving.{ServerValue}
 use Rattle.nbt_log.specs.Dates.{followed}
 use Rattle.nbt_log.specs.declared.dates.Dates.{Dates}
@@ -30,13 +30,16 @@ abbrev pub dropped_of : Option LoggerValue → ℕ
 dropped_of None = 0
 dropped_of (Some logger) = logger.outbox.dropped
 
--- The time of day is read, and moments are dated by it. The turn is logged and counted, with the lines that the log dropped in it, and then
+-- The time of day is read once for all turns of one moment, and moments are dated by it.
+pub data FollowsDay {D : Type 0} (tells : D → ℕ → D → Type 0) (at : ℕ) (old_day : D) (old_dates : Dates) (old_read : ℕ) (day : D) (dates : Dates) (read : ℕ) : Type 0 where
+  was_read : old_read ≡ at → day ≡ old_day → dates ≡ old_dates → read ≡ at → FollowsDay tells at old_day old_dates old_read day dates read
+  is_read : old_read ≢ at → (time : ℕ) → tells old_day time day → dates ≡ followed old_dates at time → read ≡ at → FollowsDay tells at old_day old_dates old_read day dates read
+
+-- Moments are dated by the time of day. The turn is logged and counted, with the lines that the log dropped in it, and then
 -- the list of leases, the hosts and the statistics are kept.
 pub record Journals {D L : Type 0} (tells : D → ℕ → D → Type 0) (puts : L → List ℕ → L → Type 0)
     (old : Journal D L) (server : ServerValue) (shown : Shown) (old_text : Option (List ℕ)) (new : Journal D L) (text : Option (List ℕ)) : Type 0 where
-  pub time : ℕ
-  pub day_told : tells old.day time new.day
-  pub dates_are : new.dates ≡ followed old.dates shown.at time
+  pub day_followed : FollowsDay tells shown.at old.day old.dates old.day_read new.day new.dates new.day_read
   pub logs : LogsIn new.dates shown old_text old.log new.log text
   pub tally_is : new.tally ≡ counted shown.entry (dropped_of new.log - dropped_of old.log) old.tally
   pub origin_is : new.origin ≡ old.origin

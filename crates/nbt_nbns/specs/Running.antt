@@ -69,6 +69,7 @@ abbrev pub new_journal : {D : Type 0} → NbnsArguments → Dates → (day : D) 
 new_journal a dates day start = record {
   dates = dates;
   day = day;
+  day_read = dates.moment;
   log = log_of a.log a.broadcasts a.log_rate;
   leases = keeper_of content.Leases a.leases;
   hosts = keeper_of content.Hosts a.hosts;

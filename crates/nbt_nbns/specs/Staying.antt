@@ -75,6 +75,11 @@ module _ {P S C : Type 0} (does : P → PortCall → P → Type 0) (keeps : S �
   abbrev pub BreaksStaying : {D V : Type 0} → KeepFault → (old new : Staying P S C D V) → Type 0
   BreaksStaying why old new = Breaks why old.served new.served × (new ≡ record old { served = new.served })
 
+-- The moment after a turn. Without a state it is the one to which the server came with a datagram, if one came; else the clock is read.
+abbrev pub TellsAfter : {S C : Type 0} (tells : C → ℕ → C → Type 0) → Option (State S) → Option Entry → (last at : ℕ) → (old new : C) → Type 0
+TellsAfter tells None (Some entry) last at old new = (at ≡ last) × (new ≡ old)
+TellsAfter tells state entry last at old new = tells old at new
+
 -- After a turn that went well the watcher is shown it; with a state it is shown the turns whose replies have left.
 abbrev pub SeesTurn : {S V : Type 0} → Sight V → ServerValue → Sent → Shown → Option (State S) → Seeing V → Option (State S) → Seeing V → Type 0
 SeesTurn sees server sent shown old before new after =
@@ -90,13 +95,13 @@ module _ {S D : Type 0} (keeps : S → StoreCall → S → Type 0) (days : D →
   FailsToLookAfter old old_day new day = ByState ⊥ (λ s t. FailsToLook keeps days server at (desk_of s old_day) (desk_of t day) × (t.share ≡ s.share) × (t.teller ≡ s.teller)) old new
 
 module _ {P S C D V : Type 0} (does : P → PortCall → P → Type 0) (failures : P → ℕ) (keeps : S → StoreCall → S → Type 0) (tells : C → ℕ → C → Type 0) (days : D → ℕ → D → Type 0) (sees : Sight V) where
-  -- A turn goes well, the clock is read after it, and the watcher is shown it, with how many calls of the port failed by then.
+  -- A turn goes well, the moment after it is told, and the watcher is shown it, with how many calls of the port failed by then.
   pub record Shows (old : Staying P S C D V) (shown : Shown) (new : Staying P S C D V) : Type 0 where
     pub turn_clock : C
     pub sent : Sent
     pub turned : Option (State S)
     pub turn : Turns does keeps tells old.served shown.entry sent (record new.served { clock = turn_clock; state = turned })
-    pub now_told : tells turn_clock shown.at new.served.clock
+    pub now_told : TellsAfter tells turned shown.entry new.served.server.last shown.at turn_clock new.served.clock
     pub failures_are : shown.health.failures ≡ failures new.served.port
     pub seen : SeesTurn sees new.served.server sent shown turned (record { watcher = old.watcher; text = old.text }) new.served.state (record { watcher = new.watcher; text = new.text })
 

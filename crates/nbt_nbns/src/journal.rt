@@ -1,7 +1,7 @@
 //! The log of a name server, and the files about it, turn by turn.
 
 ghost use Rattle.std.specs.Prelude.{◌≡◌};
-ghost use Rattle.nbt_nbns.specs.Journaling.{LogsIn, KeepsIn, dropped_of};
+ghost use Rattle.nbt_nbns.specs.Journaling.{FollowsDay, LogsIn, KeepsIn, dropped_of};
 ghost use Rattle.nbt_nbns.specs.Reports.{SaysStats};
 
 use crate::keeper::Keeper;
@@ -23,6 +23,8 @@ pub struct Journal<D, L> {
     pub dates: Dates,
     /// The clock that tells the time of day.
     pub day: D,
+    /// The moment at which it was read last.
+    pub day_read: Moment,
     /// The log, if there is one.
     pub log: Option<Logger>,
     /// The list of live leases, if it is kept.
@@ -51,8 +53,7 @@ impl<D: Clock, L: Place> Watcher for Journal<D, L> {
         writer: &mut W,
         errors: &mut E,
     ) {
-        let time = self.day.now();
-        self.dates.follow(shown.at, time);
+        follow_day(&mut self.day, &mut self.dates, &mut self.day_read, shown.at);
         let before = dropped_of(&self.log);
         log_in(&mut self.log, self.dates, shown, writer, errors);
         let dropped = dropped_of(&self.log).saturating_sub(before);
@@ -85,6 +86,18 @@ impl<D: Clock, L: Place> Watcher for Journal<D, L> {
             errors,
         );
     }
+}
+
+/// The dates follow the time of day, which is read once for all turns of one moment.
+fn follow_day<D: Clock>(day: &mut D, dates: &mut Dates, read: &mut Moment, at: Moment)
+    ensures { FollowsDay D.tells at day.old dates.old read.old day.new dates.new read.new }
+{
+    if *read == at {
+        return;
+    }
+    let time = day.now();
+    dates.follow(at, time);
+    *read = at;
 }
 
 /// How many lines a log dropped of which no note tells yet, if there is a log.

@@ -4,7 +4,7 @@ ghost use Rattle.std.specs.Prelude.{◌≡◌, ℕ, List, Option, IfOk, IfErr, O
 ghost use Rattle.nbt_port.specs.Numbers.{forever};
 ghost use Rattle.nbt_port.specs.Staying.{StaysUntil, EndsEarly, Takes};
 ghost use Rattle.nbt_nbns.specs.Inner.Ending.{EndsSo, ComesTo};
-ghost use Rattle.nbt_nbns.specs.Staying.{Breaks, BreaksStaying, CutsStaying, HasRoom, Turns, WatchesLast, WatchesOn};
+ghost use Rattle.nbt_nbns.specs.Staying.{Breaks, BreaksStaying, CutsStaying, HasRoom, TellsAfter, Turns, WatchesLast, WatchesOn};
 ghost use Rattle.nbt_serve.specs.declared.fault.KeepFault.TheVariants as fault;
 
 use crate::barring::BarredNotes;
@@ -13,6 +13,7 @@ use crate::state::{State, health_of, is_idle, look_after_state, show, take_turn,
 use crate::staying::{Shown, Watcher};
 use arrayvec::ArrayVec;
 use nbt_lease::{Lease, Moment};
+use nbt_log::Entry;
 use nbt_name::Name;
 use nbt_port::{Clock, FOREVER, Fault, Port, Turn, Turned, is_over, stay_up};
 use nbt_serve::{KeepFault, Sent};
@@ -254,13 +255,32 @@ fn turn_and_moment<P: Port, C: Clock, S: Store>(
     requires room { HasRoom state.old }
     ensures ok { IfOk result (λ sent. (turned : C) × Turns P.does S.does C.tells (record { port = port.old; clock = clock.old; server = server.old; state = state.old }) shown.new.entry sent
         (record { port = port.new; clock = turned; server = server.new; state = state.new })
-        × C.tells turned shown.new.at clock.new × (shown.new.health.failures ≡ P.failures port.new)) }
+        × TellsAfter C.tells state.new shown.new.entry server.new.last shown.new.at turned clock.new × (shown.new.health.failures ≡ P.failures port.new)) }
     ensures err { IfErr result (λ why. Breaks P.does S.does C.tells why (record { port = port.old; clock = clock.old; server = server.old; state = state.old })
         (record { port = port.new; clock = clock.new; server = server.new; state = state.new })) }
     ensures room { HasRoom state.new }
 {
     let sent = take_turn(port, clock, server, state, octets, reply, &mut shown.entry)?;
-    shown.at = clock.now();
+    shown.at = moment_after(clock, server, state, &shown.entry);
     shown.health = health_of(port, state);
     Ok(sent)
+}
+
+/// The moment after a turn. Without a state it is the one to which the server came with a datagram, if one came: nothing of such a turn
+/// takes long. Else the clock is read.
+fn moment_after<C: Clock, S>(
+    clock: &mut C,
+    server: &Server,
+    state: &Option<State<S>>,
+    entry: &Option<Entry>,
+) -> Moment
+    ensures { TellsAfter C.tells state.now entry.now server.now.last result clock.old clock.new }
+{
+    match state {
+        Some(_) => clock.now(),
+        None => match entry {
+            Some(_) => server.last(),
+            None => clock.now(),
+        },
+    }
 }

@@ -160,6 +160,7 @@ pub fn journal_of<'a, M: Files, D: Drop, E: Write>(
     Ok(Journal {
         dates,
         day,
+        day_read: dates.moment,
         log: log_of(
             alloc,
             arguments.log,

@@ -160,6 +160,7 @@ fn journal_of<'s, 'a>(
     Journal {
         dates,
         day: Day(stage),
+        day_read: dates.moment,
         log: log_of(alloc, texts),
         leases: keeper_of(stage, alloc, texts.leases, Content::Leases),
         hosts: keeper_of(stage, alloc, texts.hosts, Content::Hosts),

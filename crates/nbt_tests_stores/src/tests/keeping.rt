@@ -891,6 +891,7 @@ fn journal<R: Abort + AllocGlobal>(rt: &R) -> Journal<MemoryClock, MemoryPlace> 
             time: start,
         },
         day: clock(rt, &[0]).expect(rt, "a clock"),
+        day_read: start,
         log: None,
         leases: None,
         hosts: None,
