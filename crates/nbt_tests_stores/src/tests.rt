@@ -19,6 +19,7 @@ mod keeping;
 mod locks;
 mod older;
 mod outlasting;
+mod parts;
 mod restarts;
 mod resuming;
 mod routes;

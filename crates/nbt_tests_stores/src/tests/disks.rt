@@ -1,7 +1,7 @@
 //! Stores over a disk in memory: what a crash leaves of them, with trouble at each call.
 
 use super::expect::{expect, expect_eq, expect_eq_in, expect_in};
-use super::store::{FILE, changes, fred_lease};
+use super::store::{FILE, changes, fred_lease, renew};
 use super::{fred, header, team};
 use nbt_lease::Lease;
 use nbt_name::{Kind, Name};
@@ -14,16 +14,16 @@ use std::io;
 use std::process::Abort;
 
 /// From which call on there is which trouble. The calls are 0 to 2 to open the store, 3 a change, 4 a change, 5 a sync, 6 a change,
-/// 7 to 9 to write the file anew, 10 a change, 11 a sync, 12 a change, 13 a change, 14 a sync.
+/// 7 and 8 to begin a new file, 9 to 11 to write its lines and put it in place, 12 a change, 13 a sync, 14 a change, 15 a change, 16 a sync.
 type Failing = (usize, Trouble);
 
 /// The number of the call at which the changes begin, and how many calls there are.
 const CHANGES: usize = 3;
 
-const CALLS: usize = 15;
+const CALLS: usize = 17;
 
 /// The calls that write.
-const WRITES: [usize; 7] = [3, 4, 6, 7, 10, 12, 13];
+const WRITES: [usize; 8] = [3, 4, 6, 7, 9, 12, 14, 15];
 
 /// How many octets the line of a change here has at most.
 const LINE: usize = 49;
@@ -60,13 +60,14 @@ fn append(rt: &impl Abort, store: &mut DiskStore<MemoryDisk>, number: u32) -> Re
 /// The second, the fourth and the sixth change are synced, and the third is in a file that is written anew. Returns whether that
 /// is so of the change of this number.
 fn settle(
+    alloc: Global,
     store: &mut DiskStore<MemoryDisk>,
     header: &Header,
     rows: &[(Name, Lease)],
     number: u32,
 ) -> Result<bool, Broken> {
     match number {
-        3 => store.renew(header, rows)?,
+        3 => renew(alloc, store, header, rows)?,
         2 | 4 | 6 => store.sync()?,
         _ => return Ok(false),
     }
@@ -76,6 +77,7 @@ fn settle(
 /// Makes six changes, up to the first call that fails. Returns how many are durable, and how many were tried.
 fn run(
     rt: &impl Abort,
+    alloc: Global,
     store: &mut DiskStore<MemoryDisk>,
     header: &Header,
     rows: &[(Name, Lease)],
@@ -86,7 +88,7 @@ fn run(
         let Ok(()) = append(rt, store, number) else {
             return (durable, tried);
         };
-        match settle(store, header, rows, number) {
+        match settle(alloc, store, header, rows, number) {
             Ok(true) => durable = tried,
             Ok(false) => {}
             Err(Broken) => return (durable, tried),
@@ -190,7 +192,7 @@ fn make(
         rt,
         "open again",
     );
-    let counts = run(rt, &mut store, &header(rt, NEW), &rows);
+    let counts = run(rt, alloc, &mut store, &header(rt, NEW), &rows);
     (store, counts)
 }
 
@@ -236,13 +238,15 @@ const LEFT: &[Left] = &[
     // What is written anew is durable once it has taken its place: until then a crash leaves the old file.
     ((7, Trouble::Full(20)), 2, (true, false)),
     ((8, Trouble::Torn(0)), 2, (true, false)),
-    ((9, Trouble::Refused), 2, (true, false)),
-    ((9, Trouble::Torn(0)), 2, (true, true)),
-    ((10, Trouble::Refused), 3, (false, true)),
-    ((14, Trouble::Refused), 4, (false, true)),
-    ((15, Trouble::Refused), 6, (false, true)),
+    ((9, Trouble::Full(20)), 2, (true, false)),
+    ((10, Trouble::Torn(0)), 2, (true, false)),
+    ((11, Trouble::Refused), 2, (true, false)),
+    ((11, Trouble::Torn(0)), 2, (true, true)),
+    ((12, Trouble::Refused), 3, (false, true)),
+    ((16, Trouble::Refused), 4, (false, true)),
+    ((17, Trouble::Refused), 6, (false, true)),
     // A full disk has no trouble with a sync.
-    ((14, Trouble::Full(0)), 6, (false, true)),
+    ((16, Trouble::Full(0)), 6, (false, true)),
 ];
 
 /// Plays each row.
@@ -317,7 +321,11 @@ fn lines_of_a_store_go_on_from_those_before(rt: HostRuntime) {
     append_all(&rt, &mut store);
     expect_eq(&rt, &store.sync(), &Ok(()));
     expect_text(&rt, &store, FILE);
-    expect_eq(&rt, &store.renew(&header(&rt, NEW), &rows), &Ok(()));
+    expect_eq(
+        &rt,
+        &renew(rt.alloc(), &mut store, &header(&rt, NEW), &rows),
+        &Ok(()),
+    );
     append_all(&rt, &mut store);
     expect_text(&rt, &store, WRITTEN_ANEW)
 }
@@ -353,6 +361,10 @@ impl Disk for Asked {
 
     fn sync(&mut self) -> io::Result<()> {
         self.beneath.sync()
+    }
+
+    fn append_beside(&mut self, octets: &[u8]) -> io::Result<()> {
+        self.beneath.append_beside(octets)
     }
 
     fn install(&mut self) -> io::Result<()> {

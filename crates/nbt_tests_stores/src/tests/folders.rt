@@ -2,6 +2,7 @@
 
 use super::expect::{expect, expect_eq, expect_eq_in, expect_in};
 use super::following::machine_refusing;
+use super::store::renew;
 use nbt_front::{FixedNames, Front};
 use nbt_lease::{Config, Lease, Moment};
 use nbt_name::{Addr, Kind, Name};
@@ -106,7 +107,11 @@ fn expect_long<R: Abort + AllocGlobal + Files + time::Clock>(
     expect(rt, store.is_long());
     expect(rt, store.error().is_none());
     symlink(rt, "/dev/full", path_in(rt, folder, "leases.new").as_str()).expect(rt, "a link");
-    expect_eq(rt, &store.renew(&header(rt), &rows), &Err(Broken));
+    expect_eq(
+        rt,
+        &renew(rt.alloc(), store, &header(rt), &rows),
+        &Err(Broken),
+    );
     match store.error() {
         Some(error) => {
             let said = format!(in rt.alloc(); "{error}").expect(rt, "memory");
@@ -135,7 +140,7 @@ fn expect_changes<R: Abort + AllocGlobal + Files<File = File> + time::Clock>(
     store
         .append(&Change::Reached { at: 6 })
         .expect(rt, "memory");
-    store.renew(&header(rt), rows).expect(rt, "renew");
+    renew(rt.alloc(), store, &header(rt), rows).expect(rt, "renew");
     store.sync().expect(rt, "sync");
     expect_eq(rt, &kept(rt, folder), &1);
     expect(rt, text_in(rt, folder, "leases.new").is_none());
@@ -663,11 +668,24 @@ fn a_batch_is_one_write(rt: HostRuntime) {
 /// So many octets of room a file gets.
 const ROOM: u64 = 1 << 20;
 
+/// A new file beside one with few lines needs so many parts of 64 KiB, and a short one.
+const PARTS_OF_ROOM: usize = 16;
+
 /// How many octets the file of leases of a folder has, and how many of them are lines.
 fn sizes<R: Abort + AllocGlobal + Files>(rt: &R, folder: &str) -> (u64, u64) {
     let path = path_in(rt, folder, "leases");
     let all = fs::metadata(rt, path.as_str()).expect(rt, "its attributes");
     (all.len(), lines_in(rt, folder).len() as u64)
+}
+
+/// Whether a new file gets all of its room: a part of 64 KiB each time that the store is asked, and no sooner.
+fn gets_room<S: Store>(store: &S) -> bool {
+    for _ in 0..PARTS_OF_ROOM {
+        if store.can_renew() {
+            return false;
+        }
+    }
+    store.can_renew()
 }
 
 /// A file has its room behind the lines with which it was written. What comes later is written over that, and what is written anew has
@@ -684,10 +702,11 @@ fn expect_room<R: Abort + AllocGlobal + Files<File = File> + time::Clock>(rt: &R
     expect_eq(rt, &(second, lines < more), &(first, true));
     expect_eq(rt, &store.room(), &Room::Ample);
     for is_asked in [true, false] {
-        expect(rt, !is_asked || store.can_renew());
-        store.renew(&header(rt), &[row(rt)]).expect(rt, "renew");
+        expect(rt, !is_asked || gets_room(&store));
+        renew(rt.alloc(), &mut store, &header(rt), &[row(rt)]).expect(rt, "renew");
         let (anew, lines) = sizes(rt, folder);
-        expect(rt, lines.saturating_add(ROOM) <= anew);
+        let room = if is_asked { ROOM } else { ROOM / 2 };
+        expect(rt, lines.saturating_add(room) <= anew);
         expect(rt, anew <= second.saturating_add(ROOM));
         store
             .append(&Change::Reached { at: 7 })
@@ -771,7 +790,10 @@ fn a_store_without_its_folder_says_why(rt: HostRuntime) {
     let mut store = open_new(&rt, folder.as_str(), &[]);
     expect(&rt, store.error().is_none());
     fs::remove_dir_all(&rt, folder.as_str()).expect(&rt, "removed");
-    expect(&rt, store.renew(&header(&rt), &[]).is_err());
+    expect(
+        &rt,
+        renew(rt.alloc(), &mut store, &header(&rt), &[]).is_err(),
+    );
     let why = store.error().map(|error| error.kind());
     expect(&rt, why == Some(io::ErrorKind::NotFound));
 }

@@ -198,6 +198,10 @@ impl Disk for Filling {
         self.beneath.sync()
     }
 
+    fn append_beside(&mut self, octets: &[u8]) -> io::Result<()> {
+        self.beneath.append_beside(octets)
+    }
+
     fn install(&mut self) -> io::Result<()> {
         self.beneath.install()
     }
@@ -308,7 +312,10 @@ const LOOKS: &[Look] = &[
     (Room::Scarce, 75_000, 2),
     (Room::Scarce, 61_000, 0),
     (Room::Spent, 75_000, 0),
-    (Room::Ample, 61_000, 3),
+    // Such a line becomes durable, and so do the first two of a new file.
+    (Room::Ample, 61_000, 4),
+    // Where a line is due the new file has to wait.
+    (Room::Ample, 75_000, 2),
 ];
 
 /// Plays a look.

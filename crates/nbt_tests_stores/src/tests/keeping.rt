@@ -1292,8 +1292,12 @@ impl Scene for Long {
 
 /// The file was written anew, with the one lease that there is.
 fn expect_written_anew<R: Abort + AllocGlobal>(rt: &R, state: &MemoryState) {
-    // 17 batches of 64, 12 more, and 3 calls to write the file anew.
-    expect_eq(rt, &state.store.disk().calls(), &(3 + MANY + 17 + 1 + 3));
+    // 17 batches of 64, 12 more, 4 calls to begin a new file, and 3 to write its lines and put it in place.
+    expect_eq(
+        rt,
+        &state.store.disk().calls(),
+        &(3 + MANY + 17 + 1 + 4 + 3),
+    );
     expect_eq(rt, &state.header.last, &60_000);
     expect_eq(rt, &rows_in(rt, state.store.disk().octets()), &1);
 }

@@ -4,6 +4,7 @@
 use super::expect::{expect, expect_eq, expect_eq_in, expect_in};
 use super::folders::{header, path_for, path_in, row, text_in};
 use super::following::{Swap, machine_swapping};
+use super::store::renew;
 use nbt_nbns::{Content, FilePlace, FolderStore, Place};
 use nbt_store::{Broken, Change, Store, SystemDisk};
 use std::fs::{File, Permissions};
@@ -338,7 +339,7 @@ fn ask<R: Abort + AllocGlobal + Files + time::Clock>(
         Asks::Began => store.append(&Change::Began { name, lease, at: 9 }),
         Asks::Reached => store.append(&Change::Reached { at: 9 }),
         Asks::Looked => store.append(&Change::Looked { day: 9, at: 9 }),
-        Asks::Renewal => store.renew(&header(rt), &[]),
+        Asks::Renewal => renew(rt.alloc(), store, &header(rt), &[]),
     }
 }
 

@@ -7,10 +7,55 @@ use super::damage::{
 use super::expect::{expect, expect_eq};
 use super::{fred, header, team};
 use nbt_lease::Lease;
-use nbt_name::Kind;
-use nbt_store::{Boot, Change, Fault, Form, write_change, write_file};
-use std::alloc::Global;
+use nbt_name::{Kind, Name};
+use nbt_store::{Boot, Broken, Change, Fault, Form, Header, Store, write_change, write_file};
+use std::alloc::{AllocError, Global};
+use std::collections::VecDeque;
 use std::process::Abort;
+
+/// The changes by which these leases begin at this time.
+fn begun_of(
+    alloc: Global,
+    rows: &[(Name, Lease)],
+    at: u64,
+) -> Result<VecDeque<Change>, AllocError> {
+    let mut changes = VecDeque::new(alloc);
+    for (name, lease) in rows {
+        changes.push_back(Change::Began {
+            name: name.copy(),
+            lease: *lease,
+            at,
+        })?;
+    }
+    Ok(changes)
+}
+
+/// Has a store begin a new file of these leases. Refused if out of memory too.
+pub fn begin_renewal<S: Store>(
+    alloc: Global,
+    store: &mut S,
+    header: &Header,
+    rows: &[(Name, Lease)],
+) -> Result<(), Broken> {
+    match begun_of(alloc, rows, header.last) {
+        Ok(changes) => store.begin_renewal(header, changes),
+        Err(_) => Err(Broken),
+    }
+}
+
+/// The same, and goes on with it by one part: the leases are few.
+pub fn renew<S: Store>(
+    alloc: Global,
+    store: &mut S,
+    header: &Header,
+    rows: &[(Name, Lease)],
+) -> Result<(), Broken> {
+    begin_renewal(alloc, store, header, rows)?;
+    match store.go_on() {
+        Ok(true) => Ok(()),
+        _ => Err(Broken),
+    }
+}
 
 const FIRST: u32 = 0xC000_0207;
 
