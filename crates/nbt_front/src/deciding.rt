@@ -1,6 +1,6 @@
 //! What a front decides of a datagram.
 
-ghost use Rattle.std.specs.Prelude.{◌≡◌, ◌↔◌, ◌≤◌, ◌+◌, ◌++◌, ℕ, false, [], Some, None, IsTrue, IfSome, IfNone, OnOk};
+ghost use Rattle.std.specs.Prelude.{◌≡◌, ◌↔◌, ◌≤◌, ◌+◌, ◌++◌, ℕ, false, [], Some, None, IsTrue, IfSome, IfNone, IfOk, OnOk};
 ghost use Rattle.std.specs.List.{flat_map};
 ghost use Rattle.nbt_packet.specs.Message.{MessageValue, found, message_of, overwrite, query, registered, release, released};
 ghost use Rattle.nbt_packet.specs.Spelling.{AreWritten, Spells};
@@ -109,6 +109,14 @@ impl Front {
     pub fn given(&self, alloc: Global) -> Result<Front, AllocError> {
         let given = self.given.min(self.allowed.len());
         let allowed = Vec::from_slice(alloc, &self.allowed.as_slice()[..given])?;
+        Ok(Front::new(allowed, FixedNames::none(alloc), self.config))
+    }
+
+    /// The same front without names.
+    pub(crate) fn without_names(&self, alloc: Global) -> Result<Front, AllocError>
+        ensures { IfOk result (λ front. front ≡ record self.now { fixed = [] }) }
+    {
+        let allowed = Vec::from_slice(alloc, self.allowed.as_slice())?;
         Ok(Front::new(allowed, FixedNames::none(alloc), self.config))
     }
 

@@ -105,8 +105,8 @@ fn look_at<M: Files>(machine: &M, path: &str) -> Look {
     }
 }
 
-/// The files of a front over a machine. They are looked at once a second, and all are read where one was replaced or written a second ago or
-/// earlier.
+/// The files of a front over a machine. Each is looked at once a second, and read where it was replaced or written a second ago or earlier.
+/// While one has a fault, what was read of it before stays, whatever the other one says.
 #[derive(Drop)]
 pub struct FrontFiles<'a, M> {
     machine: &'a M,
@@ -140,22 +140,37 @@ impl<'a, M: Files> FrontFiles<'a, M> {
         }
     }
 
-    /// Whether one of the files is to be read. Each is looked at.
-    fn is_one_new(&mut self) -> bool {
-        let networks = is_new(&mut self.networks, self.machine);
-        let fixed = is_new(&mut self.fixed, self.machine);
-        networks || fixed
+    /// What the file of networks says, without a fault, which is said in `errors`.
+    fn read_networks<E: Write>(&self, errors: &mut E) -> Option<Vec<Network>> {
+        let path = self.first.networks_path()?;
+        without_fault(networks_in(self.machine, self.alloc, path), errors)
     }
 
-    /// The front that the files say now.
-    fn read(&self) -> Result<Front, ReadFault<'a>> {
-        let mut front = self.first.given(self.alloc)?;
-        if let Some(path) = self.first.networks_path() {
-            front.allow(networks_in(self.machine, self.alloc, path)?)?;
-        }
-        if let Some(path) = self.first.fixed_path() {
-            front.fix(names_in(self.machine, self.alloc, path)?);
-        }
+    /// What the file of fixed names says, without a fault, which is said in `errors`.
+    fn read_names<E: Write>(&self, errors: &mut E) -> Option<FixedNames> {
+        let path = self.first.fixed_path()?;
+        without_fault(names_in(self.machine, self.alloc, path), errors)
+    }
+
+    /// A front of the networks and the names that were read, and of those of another front where there are none.
+    fn renewed(
+        &self,
+        present: &Front,
+        networks: Option<Vec<Network>>,
+        names: Option<FixedNames>,
+    ) -> Result<Front, AllocError> {
+        let mut front = match networks {
+            Some(networks) => {
+                let mut front = self.first.given(self.alloc)?;
+                front.allow(networks)?;
+                front
+            }
+            None => present.without_names(self.alloc)?,
+        };
+        front.fix(match names {
+            Some(names) => names,
+            None => present.fixed().clone()?,
+        });
         Ok(front)
     }
 }
@@ -166,17 +181,29 @@ impl<M: Files> FrontSource for FrontFiles<'_, M> {
             return None;
         }
         self.looked = Some(now);
-        if !self.is_one_new() {
+        let has_networks = is_new(&mut self.networks, self.machine);
+        let has_names = is_new(&mut self.fixed, self.machine);
+        if !has_networks && !has_names {
             return None;
         }
         let is_first = self.is_first;
         self.is_first = false;
-        let front = match self.read() {
-            Ok(front) => front,
-            Err(fault) => {
-                let _ = tell_fault(fault, errors);
-                return None;
-            }
+        let networks = if has_networks {
+            self.read_networks(errors)
+        } else {
+            None
+        };
+        let names = if has_names {
+            self.read_names(errors)
+        } else {
+            None
+        };
+        if networks.is_none() && names.is_none() {
+            return None;
+        }
+        let Ok(front) = self.renewed(present, networks, names) else {
+            let _ = tell_fault(ReadFault::Memory, errors);
+            return None;
         };
         if is_same(present, &front) {
             if !is_first {
@@ -191,6 +218,17 @@ impl<M: Files> FrontSource for FrontFiles<'_, M> {
     fn again(&mut self) {
         forget(&mut self.networks);
         forget(&mut self.fixed);
+    }
+}
+
+/// What was read, if it has no fault; else the fault is said in `errors`.
+fn without_fault<T, E: Write>(read: Result<T, ReadFault<'_>>, errors: &mut E) -> Option<T> {
+    match read {
+        Ok(said) => Some(said),
+        Err(fault) => {
+            let _ = tell_fault(fault, errors);
+            None
+        }
     }
 }
 
@@ -229,12 +267,6 @@ enum ReadFault<'a> {
     NoNetwork(&'a str),
     /// This line of the file of fixed names, counted from 1, can't be taken.
     Fixed(&'a str, usize, LineFault),
-}
-
-impl From<AllocError> for ReadFault<'_> {
-    fn from(_: AllocError) -> Self {
-        ReadFault::Memory
-    }
 }
 
 fn networks_in<'a, M: Files>(

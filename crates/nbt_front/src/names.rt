@@ -34,6 +34,16 @@ impl Model for FixedNames {
     ghost view = { λ f. f.names.entries };
 }
 
+impl Clone for FixedNames {
+    ghost is_clone = { λ f g. g ≡ f };
+
+    fn clone(&self) -> Result<FixedNames, AllocError> {
+        Ok(FixedNames {
+            names: self.names.clone()?,
+        })
+    }
+}
+
 impl FixedNames {
     /// No name is fixed. Takes no memory.
     pub fn none(alloc: Global) -> FixedNames

@@ -24,7 +24,7 @@ enum Does {
 
 /// What is done; at which moment the files are looked at then; how many names are fixed, and how many networks may register, where another
 /// front takes the place of the last one; and how what is said ends.
-const LOOKS: [(Does, u64, Option<(usize, usize)>, &str); 23] = [
+const LOOKS: [(Does, u64, Option<(usize, usize)>, &str); 35] = [
     (Does::Fixes("FILER unique 192.0.2.7\n"), 0, None, ""),
     (Does::Nothing, 999, None, ""),
     (
@@ -110,6 +110,50 @@ const LOOKS: [(Does, u64, Option<(usize, usize)>, &str); 23] = [
         "nbt: networks that may register: 2; added 198.51.100.7/32; taken out 192.0.2.0/24\n",
     ),
     (Does::Nothing, 20_000, None, ""),
+    // While one of the two has a fault, the other one is read, and the fault isn't said again.
+    (Does::Fixes("LASER1\n"), 21_000, None, ""),
+    (
+        Does::Nothing,
+        22_000,
+        None,
+        ": line 1: kind: unique or group is wanted; what was read before stays\n",
+    ),
+    (
+        Does::Allows("192.0.2.0/24\n198.51.100.7\n"),
+        23_000,
+        None,
+        "",
+    ),
+    (
+        Does::Nothing,
+        24_000,
+        Some((7, 3)),
+        "nbt: networks that may register: 3; added 192.0.2.0/24\n",
+    ),
+    (Does::Allows("198.51.100.7/33\n"), 25_000, None, ""),
+    (
+        Does::Nothing,
+        26_000,
+        None,
+        ": line 1: no A.B.C.D/BITS or A.B.C.D, with 0 to 32 bits; what was read before stays\n",
+    ),
+    (Does::Fixes("A unique 192.0.2.1\n"), 27_000, None, ""),
+    (
+        Does::Nothing,
+        28_000,
+        Some((1, 3)),
+        "nbt: fixed names: 1; taken out B#20, C#20, D#20, E#20, F#20 and 1 more\n",
+    ),
+    // Both are written at once, one of them with a fault.
+    (Does::Allows("198.51.100.7/34\n"), 28_500, None, ""),
+    (Does::Fixes("A unique 192.0.2.2\n"), 29_000, None, ""),
+    (
+        Does::Nothing,
+        30_000,
+        Some((1, 3)),
+        ": line 1: no A.B.C.D/BITS or A.B.C.D, with 0 to 32 bits; what was read before stays\nnbt: fixed names: 1; changed A#20\n",
+    ),
+    (Does::Nothing, 31_000, None, ""),
 ];
 
 /// A path in the folder for temporary files that no other test has.
