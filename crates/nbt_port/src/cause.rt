@@ -8,6 +8,9 @@ use std::{fmt, io};
 /// The first port that needs no privileges, as most systems have it.
 const PRIVILEGED_END: u16 = 1_024;
 
+/// The system's number for a program that has as many open files as it may (EMFILE).
+const TOO_MANY_FILES: i32 = 24;
+
 /// A call of the system.
 #[derive(Clone, Copy, Debug, PartialEq, Eq)]
 pub enum MachineCall {
@@ -56,12 +59,20 @@ impl Cause {
         self.error.kind() == io::ErrorKind::OutOfMemory
     }
 
-    /// Where the system keeps a port for privileged programs, prints a line that says what to do for a command that takes `--bind`. A failure to
-    /// write it is ignored.
+    /// Where the system keeps a port for privileged programs, or the program may have no more open files, prints a line that says what to do
+    /// for a command that takes `--bind`. A failure to write it is ignored.
     pub(crate) fn advise<E: Write>(&self, errors: &mut E) {
         if self.is_of_privileges() {
             let _ = write_advice(errors);
         }
+        if self.is_of_files() {
+            let _ = write_advice_on_files(errors);
+        }
+    }
+
+    /// Whether the program may have no more open files, of which a socket is one.
+    pub(crate) fn is_of_files(&self) -> bool {
+        self.error.raw_os_error() == Some(TOO_MANY_FILES)
     }
 
     /// Whether the system keeps the port for privileged programs.
@@ -95,6 +106,14 @@ fn write_advice<E: Write>(errors: &mut E) -> io::Result<()> {
     writeln!(
         errors,
         "nbt: a port below {PRIVILEGED_END} needs privileges: run it as root or with CAP_NET_BIND_SERVICE, or give it another one by --bind ADDRESS:PORT"
+    )?;
+    errors.flush()
+}
+
+fn write_advice_on_files<E: Write>(errors: &mut E) -> io::Result<()> {
+    writeln!(
+        errors,
+        "nbt: each address takes an open file: allow more of them by `ulimit -n`, or by LimitNOFILE= of a unit"
     )?;
     errors.flush()
 }

@@ -159,6 +159,7 @@ impl<'a, M: Net + Files + time::Clock> UdpPorts<'a, M> {
             self.advise(errors);
             return Err(self.refusal());
         }
+        self.advise_on_files(errors);
         self.changes.clear();
         Ok(())
     }
@@ -285,6 +286,17 @@ impl<'a, M: Net + Files + time::Clock> UdpPorts<'a, M> {
     fn advise<E: Write>(&self, errors: &mut E) {
         if let Some(Change::Refused(cause)) = self.changes.as_slice().first() {
             cause.advise(errors);
+        }
+    }
+
+    /// Says what to do where the program may have no more open files, once.
+    fn advise_on_files<E: Write>(&self, errors: &mut E) {
+        for change in self.changes.as_slice() {
+            if let Change::Refused(cause) = change {
+                if cause.is_of_files() {
+                    return cause.advise(errors);
+                }
+            }
         }
     }
 

@@ -36,7 +36,7 @@ pub struct Machine<'a, N> {
     pub port: &'a UdpSocket,
     pub other: &'a UdpSocket,
     pub street: &'a Street,
-    pub refusal: Option<io::ErrorKind>,
+    pub refusal: Option<io::Error>,
     pub moments: &'static [u64],
     pub sends: &'static [(usize, &'static str)],
     pub breaks_at: usize,
@@ -127,7 +127,7 @@ impl<'a, N: Net<Stream = TcpStream, Listener = TcpListener>> Machine<'a, N> {
     fn leave(&self) -> io::Result<()> {
         match self.refusal {
             None => Ok(()),
-            Some(kind) => Err(io::Error::from(kind)),
+            Some(error) => Err(error),
         }
     }
 

@@ -273,11 +273,40 @@ static UNPRIVILEGED: [(&str, &str, u8, &[u8]); 7] = [
     ),
 ];
 
+/// A program that has as many open files as it may.
+static WITHOUT_FILES: [(&str, &str, u8, &[u8]); 4] = [
+    (
+        "nbt nbns --bind 127.42.24.1",
+        "device\n",
+        3,
+        b"nbt: 127.42.24.1:137: Too many open files (os error 24)\nnbt: each address takes an open file: allow more of them by `ulimit -n`, or by LimitNOFILE= of a unit\n",
+    ),
+    (
+        "nbt nbns",
+        "device\n",
+        3,
+        b"nbt: 0.0.0.0:137: Too many open files (os error 24)\nnbt: each address takes an open file: allow more of them by `ulimit -n`, or by LimitNOFILE= of a unit\n",
+    ),
+    (
+        "nbt host FRED --server 127.42.24.2 --bind 127.42.24.1",
+        "device\n",
+        3,
+        b"nbt: 127.42.24.1:137: Too many open files (os error 24)\nnbt: each address takes an open file: allow more of them by `ulimit -n`, or by LimitNOFILE= of a unit\n",
+    ),
+    // The commands of the bench say what they always said.
+    (
+        "nbt serve 127.42.24.1:137 1000 60 --forever",
+        "device\n",
+        3,
+        b"nbt: 127.42.24.1:137: Too many open files (os error 24)\n",
+    ),
+];
+
 /// None of its sockets is at that port, since its machine refuses it for this reason.
 fn expect_refused<R>(
     rt: &R,
     port: &UdpSocket,
-    kind: ErrorKind,
+    error: io::Error,
     rows: &[(&'static str, &'static str, u8, &'static [u8])],
 )
 where
@@ -285,7 +314,7 @@ where
 {
     let street = Street::new();
     let machine = Machine {
-        refusal: Some(kind),
+        refusal: Some(error),
         ..Machine::new(rt, port, port, &street)
     };
     for row in rows {
@@ -305,6 +334,22 @@ fn ports_that_can_not_be_had(rt: HostRuntime) {
     let _datagrams = UdpSocket::bind(&rt, end(2, 22238)).expect(&rt, "a port");
     let _sessions = TcpListener::bind(&rt, end(2, 22439)).expect(&rt, "a port");
     expect_not_bound(&rt);
-    expect_refused(&rt, &taken, ErrorKind::OutOfMemory, &BINDING);
-    expect_refused(&rt, &taken, ErrorKind::PermissionDenied, &UNPRIVILEGED);
+    expect_refused(
+        &rt,
+        &taken,
+        io::Error::from(ErrorKind::OutOfMemory),
+        &BINDING,
+    );
+    expect_refused(
+        &rt,
+        &taken,
+        io::Error::from(ErrorKind::PermissionDenied),
+        &UNPRIVILEGED,
+    );
+    expect_refused(
+        &rt,
+        &taken,
+        io::Error::from_raw_os_error(24),
+        &WITHOUT_FILES,
+    );
 }
