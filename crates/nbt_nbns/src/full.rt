@@ -61,10 +61,12 @@ impl FullNotes {
     }
 }
 
-/// What is said of a disk that is full and has so much room still.
+/// What is said of a disk that is full, or of a file that is as long as it may be, where there is so much room still.
 fn note_of(room: Room) -> &'static str {
     match room {
         Room::Spent => "the disk is full: all requests are lost until there is room",
+        Room::TooLong =>
+            "the file has as many lines as it may: requests but queries are lost until it is written anew",
         Room::Ample | Room::Scarce =>
             "the disk is full: requests but queries are lost until there is room",
     }

@@ -59,6 +59,7 @@ pub data Shares (now client : ℕ) (octets : List ℕ) (old : ShareValue) : (bar
 -- What a store with so much room lets in: where there is room for times alone what asks for no change, and where there is none nothing.
 abbrev pub IsLetIn : Room → (octets : List ℕ) → Type 0
 IsLetIn there_is.Ample octets = ⊤
+IsLetIn there_is.TooLong octets = ¬ AsksForChange octets
 IsLetIn there_is.Scarce octets = ¬ AsksForChange octets
 IsLetIn there_is.Spent octets = ⊥
 

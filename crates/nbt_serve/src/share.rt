@@ -241,7 +241,7 @@ fn is_let_in(room: Room, octets: &[u8]) -> bool
 {
     match room {
         Room::Ample => true,
-        Room::Scarce => !asks_for_change(octets),
+        Room::TooLong | Room::Scarce => !asks_for_change(octets),
         Room::Spent => false,
     }
 }

@@ -281,7 +281,7 @@ impl<D: Disk> Store for DiskStore<D> {
     fn room(&self) -> Room {
         let room = self.disk.room();
         if room.is_ample() && self.lines as u64 >= lines_most(self.rows) {
-            Room::Scarce
+            Room::TooLong
         } else {
             room
         }

@@ -8,6 +8,8 @@ ghost use Rattle.nbt_store.specs.declared.room.Room.TheVariants.{Ample, Spent};
 pub enum Room {
     /// There is room for changes.
     Ample,
+    /// The file has as many lines as it may: there is room for times alone.
+    TooLong,
     /// The disk is full: there is room for times alone.
     Scarce,
     /// The disk is full: there is room for no line.

@@ -8,10 +8,13 @@ use std::io::{ErrorKind, Write};
 /// So many octets of room a file gets (our profile).
 pub(crate) const ROOM: u64 = 1 << 20;
 
-/// So many of them a new file gets at once, at most (our profile): neither they nor their sync take long.
+/// So many of them a file gets at once, at most (our profile): neither they nor their sync take long.
 pub(crate) const ROOM_PART: u64 = 1 << 16;
 
-/// Where fewer are left the file gets room anew; where the disk has none, what is left is for times alone (our profile).
+/// Where fewer are left the file gets a part of them anew (our profile).
+const WHOLE: u64 = ROOM - ROOM_PART;
+
+/// Where fewer are left, since the disk has none, they are for times alone (our profile).
 const LEAST: u64 = ROOM / 2;
 
 /// A line has fewer octets (our profile). Where fewer are left there is room for none.
@@ -40,9 +43,9 @@ pub(crate) fn room_of(left: u64) -> Room {
     }
 }
 
-/// Whether so little is left that the file is to get room anew.
-pub(crate) fn is_little(left: u64) -> bool {
-    left < LEAST
+/// Whether so little is left that the file is to get a part of its room anew.
+pub(crate) fn lacks_part(left: u64) -> bool {
+    left < WHOLE
 }
 
 /// Whether this says that the disk is full.

@@ -9,7 +9,7 @@ use crate::disk::Disk;
 use crate::disk_store::lines_most;
 use crate::room::Room;
 use crate::spare::{
-    LINE_MOST, PAUSE, PAUSE_BESIDE, ROOM, ROOM_PART, is_full, is_little, room_of, without_room,
+    LINE_MOST, PAUSE, PAUSE_BESIDE, ROOM, ROOM_PART, is_full, lacks_part, room_of, without_room,
     write_zeros,
 };
 use crate::syncs::Syncs;
@@ -221,8 +221,8 @@ impl<R: Files + time::Clock> SystemDisk<'_, R> {
         }
     }
 
-    /// Gives the open file the room that it lacks, as far as the disk has it, and makes that durable. Refused where another file is in
-    /// its place, and where the disk fails or is full.
+    /// Gives the open file a part of the room that it lacks, as far as the disk has it, and makes that durable. Refused where another file is
+    /// in its place, and where the disk fails or is full.
     fn extend(&self) -> io::Result<()> {
         let mut how = File::options();
         how.append(true);
@@ -230,7 +230,8 @@ impl<R: Files + time::Clock> SystemDisk<'_, R> {
         if self.mark != Some(Mark::of(&file.metadata()?)) {
             return Err(moved());
         }
-        let done = write_zeros(&mut file, ROOM.saturating_sub(self.left()));
+        let lacks = ROOM.saturating_sub(self.left());
+        let done = write_zeros(&mut file, lacks.min(ROOM_PART));
         file.sync_data()?;
         self.size.set(file.seek(SeekFrom::End(0))?);
         done
@@ -485,7 +486,7 @@ impl<'a, R: Files + time::Clock> Disk for SystemDisk<'a, R> {
     }
 
     fn room(&self) -> Room {
-        if is_little(self.left()) && self.is_since(self.refused.get(), PAUSE) {
+        if lacks_part(self.left()) && self.is_since(self.refused.get(), PAUSE) {
             match self.extend() {
                 Ok(()) => self.refused.set(None),
                 Err(_) => self.refused.set(self.now()),

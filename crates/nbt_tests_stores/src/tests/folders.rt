@@ -668,6 +668,9 @@ fn a_batch_is_one_write(rt: HostRuntime) {
 /// So many octets of room a file gets.
 const ROOM: u64 = 1 << 20;
 
+/// So many of them at once, at most.
+const ROOM_PART: u64 = 1 << 16;
+
 /// A new file beside one with few lines needs so many parts of 64 KiB, and a short one.
 const PARTS_OF_ROOM: usize = 16;
 
@@ -722,6 +725,44 @@ fn a_file_has_room_for_lines_to_come(rt: HostRuntime) {
     let folder = path_for(&rt, "room").expect(&rt, "a path");
     fs::create_dir(&rt, folder.as_str()).expect(&rt, "a folder");
     expect_room(&rt, folder.as_str());
+    fs::remove_dir_all(&rt, folder.as_str()).expect(&rt, "removed");
+}
+
+/// More lines than two parts of room take.
+const LONG: u64 = 6_000;
+
+/// What lines took of the room of a file it gets back by a part at a look, while more than a part is missing.
+fn expect_parts_of_room<R: Abort + AllocGlobal + Files<File = File> + time::Clock>(
+    rt: &R,
+    folder: &str,
+) {
+    let mut store = open_new(rt, folder, &[row(rt)]);
+    let (first, before) = sizes(rt, folder);
+    for at in 6..LONG {
+        store.append(&Change::Reached { at }).expect(rt, "memory");
+    }
+    store.sync().expect(rt, "sync");
+    let (size, lines) = sizes(rt, folder);
+    expect_eq(rt, &size, &first);
+    let parts = lines.saturating_sub(before) / ROOM_PART;
+    expect(rt, parts >= 2);
+    for look in 1..parts.saturating_add(2) {
+        expect_eq_in(rt, &look, &store.room(), &Room::Ample);
+        let more = look.min(parts).saturating_mul(ROOM_PART);
+        expect_eq_in(
+            rt,
+            &look,
+            &sizes(rt, folder),
+            &(first.saturating_add(more), lines),
+        );
+    }
+}
+
+#[test]
+fn a_file_gets_its_room_back_part_by_part(rt: HostRuntime) {
+    let folder = path_for(&rt, "parts-of-room").expect(&rt, "a path");
+    fs::create_dir(&rt, folder.as_str()).expect(&rt, "a folder");
+    expect_parts_of_room(&rt, folder.as_str());
     fs::remove_dir_all(&rt, folder.as_str()).expect(&rt, "removed");
 }
 

@@ -255,12 +255,16 @@ const ROOMS: &[Room] = &[
     Room::Scarce,
     Room::Spent,
     Room::Spent,
+    // The disk has room, and the file is too long.
+    Room::TooLong,
+    Room::TooLong,
 ];
 
-/// What is said of that: at once, after a minute, once there is room for no line, and once there is room again.
+/// What is said of that: at once, after a minute, once there is room for no line, once the file is too long, and once there is room again.
 const SAID: &str = "nbt: the disk is full: requests but queries are lost until there is room\n\
 nbt: the disk is full: requests but queries are lost until there is room\n\
 nbt: the disk is full: all requests are lost until there is room\n\
+nbt: the file has as many lines as it may: requests but queries are lost until it is written anew\n\
 nbt: there is room again\n";
 
 /// A server that stays up over a disk that is full for a while.

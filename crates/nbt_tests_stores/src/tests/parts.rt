@@ -431,6 +431,8 @@ fn see_lines<R: Abort + AllocGlobal>(rt: &R) {
         expect_in(rt, &at, store.room() == Room::Ample);
         expect_eq_in(rt, &at, &store.append(&Change::Reached { at }), &Ok(()));
     }
+    expect_eq(rt, &store.room(), &Room::TooLong);
+    store.disk().set_room(Room::Scarce);
     expect_eq(rt, &store.room(), &Room::Scarce);
     store.disk().set_room(Room::Spent);
     expect_eq(rt, &store.room(), &Room::Spent)
