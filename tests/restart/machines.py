@@ -88,6 +88,11 @@ class Host(Asking):
     register = partialmethod(ask, packets.REGISTRATION)
     refresh = partialmethod(ask, packets.REFRESH)
 
+    def is_refused(self, name, patience=0.5):
+        """Whether the server says that another machine has the name (ACT_ERR)."""
+        octets = self.replied(packets.REGISTRATION, name, LONGEST, patience)
+        return bool(octets) and octets[3] & 0x0F == 6
+
     def holders(self, name, patience=0.5):
         """Whom the server says the name belongs to: None without any reply."""
         octets = self.told(name, patience)

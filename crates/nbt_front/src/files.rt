@@ -169,7 +169,7 @@ impl<'a, M: Files> FrontFiles<'a, M> {
         };
         front.fix(match names {
             Some(names) => names,
-            None => present.fixed().clone()?,
+            None => present.fixed().copied(self.alloc)?,
         });
         Ok(front)
     }

@@ -1,6 +1,6 @@
 //! What is fixed of a name.
 
-ghost use Rattle.std.specs.Prelude.{◌≡◌, ◌↔◌, ◌++◌, ⊤, ℕ, ◌<◌, ◌≤◌, not, nat_eq, Some, None, IsTrue, Contains, length, IfOk, IfErr, OnOk};
+ghost use Rattle.std.specs.Prelude.{◌≡◌, ◌↔◌, ◌++◌, ℕ, ◌<◌, ◌≤◌, not, nat_eq, Some, None, IsTrue, Contains, length, IfOk, IfErr, OnOk};
 ghost use Rattle.std.specs.List.{list_any};
 ghost use Rattle.nbt_front.specs.Files.{IsBarred, Joins};
 ghost use Rattle.nbt_front.specs.Deciding.{IsHolder, entries_of};
@@ -37,21 +37,6 @@ impl Model for Fixed {
     ghost view = { λ f. record { kind = f.kind; addrs = f.addrs.items } };
 
     ghost invariant = { λ f. IsFixed (record { kind = f.kind; addrs = f.addrs.items }) };
-}
-
-impl Clone for Fixed {
-    ghost is_clone = { λ f g. g ≡ f };
-
-    ghost is_infallible = { λ _. ⊤ };
-
-    fn clone(&self) -> Result<Fixed, AllocError> {
-        let mut addrs = ArrayVec::new();
-        addrs.try_extend_from_slice(self.addrs.as_slice()).unwrap();
-        Ok(Fixed {
-            kind: self.kind,
-            addrs,
-        })
-    }
 }
 
 impl Fixed {
@@ -91,6 +76,18 @@ impl Fixed {
             kind: self.kind,
             addrs,
         })
+    }
+
+    /// The same once more.
+    pub(crate) fn copied(&self) -> Fixed
+        ensures { result ≡ self.now }
+    {
+        let mut addrs = ArrayVec::new();
+        addrs.try_extend_from_slice(self.addrs.as_slice()).unwrap();
+        Fixed {
+            kind: self.kind,
+            addrs,
+        }
     }
 
     /// Its kind.

@@ -34,16 +34,6 @@ impl Model for FixedNames {
     ghost view = { λ f. f.names.entries };
 }
 
-impl Clone for FixedNames {
-    ghost is_clone = { λ f g. g ≡ f };
-
-    fn clone(&self) -> Result<FixedNames, AllocError> {
-        Ok(FixedNames {
-            names: self.names.clone()?,
-        })
-    }
-}
-
 impl FixedNames {
     /// No name is fixed. Takes no memory.
     pub fn none(alloc: Global) -> FixedNames
@@ -66,6 +56,15 @@ impl FixedNames {
         ensures { IsTrue result ↔ (self.now ≡ []) }
     {
         self.names.is_empty()
+    }
+
+    /// The same names once more, in the same order.
+    pub(crate) fn copied(&self, alloc: Global) -> Result<FixedNames, AllocError> {
+        let mut copied = FixedNames::none(alloc);
+        for (name, fixed) in &self.names {
+            copied.names.insert(name.copy(), fixed.copied())?;
+        }
+        Ok(copied)
     }
 
     /// Each name with what is fixed of it, in the order of their first lines.

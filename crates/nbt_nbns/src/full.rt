@@ -66,9 +66,8 @@ fn note_of(room: Room) -> &'static str {
     match room {
         Room::Spent => "the disk is full: all requests are lost until there is room",
         Room::TooLong =>
-            "the file has as many lines as it may: requests but queries are lost until it is written anew",
-        Room::Ample | Room::Scarce =>
-            "the disk is full: requests but queries are lost until there is room",
+            "the file has as many lines as it may: changes are lost until it is written anew",
+        Room::Ample | Room::Scarce => "the disk is full: changes are lost until there is room",
     }
 }
 

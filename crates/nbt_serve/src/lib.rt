@@ -12,6 +12,7 @@ mod changing;
 mod fault;
 pub mod laws;
 mod looking;
+mod needing;
 mod samba;
 mod samba_port;
 mod serving;

@@ -13,6 +13,7 @@ ghost use Rattle.nbt_serve.specs.Turning.{with_any, appends_of, KeepsTurn, Break
 
 use crate::changing::{change_of, changes_leases};
 use crate::fault::KeepFault;
+use crate::needing::room_for;
 use crate::share::Share;
 use crate::waiting::{Sent, Waiting};
 use arrayvec::ArrayVec;
@@ -24,8 +25,8 @@ use nbt_store::{Broken, Store};
 
 /// The server goes through one turn. It receives a datagram, and waits for it where no reply waits. Where one came, it reads the
 /// clock. A request for a change is barred where its client has had its share of changes in this second of the clock, or memory was refused to count
-/// it: it is lost, before it costs a line. So it is where the store has room for times alone, and every datagram where it has room for
-/// no line. Every change counts, that of a renewal too; a request that changes nothing doesn't. Where the moment is
+/// it: it is lost, before it costs a line. So it is where the store has room for times alone, unless the server refuses it as it has it; and every datagram is lost where the store has room
+/// for no line. Every change counts, that of a renewal too; a request that changes nothing doesn't. Where the moment is
 /// more than a second past the last durable time, the time becomes durable first, with all that waits for it. Then it handles the datagram at that time, and has the store append what that changed. Its reply leaves ahead of those that wait where no
 /// line had to become durable before it, and none waits and all is durable, or it answers a query, and no reply about its name waits; else it
 /// waits with those before it. All that waits leaves where nothing came, or all is durable, or 64 wait, or 64 datagrams came from the
@@ -134,7 +135,8 @@ fn take<C: Clock, S: Store>(
     ensures err { OnErr result (FailsToTake S.does C.tells store.old clock.old server.old share.old waiting.old from octets.now store.new clock.new server.new waiting.new) }
 {
     let now = clock.now();
-    let admission = share.admit_by(store.room(), now, from.peer.ip, octets);
+    let room = room_for(store.room(), server, now, from.peer.ip, octets);
+    let admission = share.admit_by(room, now, from.peer.ip, octets);
     if admission.is_barred() {
         *entry = None;
         return Ok(false);

@@ -18,6 +18,7 @@ mod full;
 mod keeping;
 mod locks;
 mod older;
+mod order;
 mod outlasting;
 mod parts;
 mod restarts;

@@ -111,7 +111,7 @@ const LOOKS: [(Does, u64, Option<(usize, usize)>, &str); 35] = [
     ),
     (Does::Nothing, 20_000, None, ""),
     // While one of the two has a fault, the other one is read, and the fault isn't said again.
-    (Does::Fixes("LASER1\n"), 21_000, None, ""),
+    (Does::Fixes("LASER1 single 192.0.2.8\n"), 21_000, None, ""),
     (
         Does::Nothing,
         22_000,

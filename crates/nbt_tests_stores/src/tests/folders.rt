@@ -729,7 +729,7 @@ fn a_file_has_room_for_lines_to_come(rt: HostRuntime) {
 }
 
 /// More lines than two parts of room take.
-const LONG: u64 = 6_000;
+const LONG: u64 = 7_000;
 
 /// What lines took of the room of a file it gets back by a part at a look, while more than a part is missing.
 fn expect_parts_of_room<R: Abort + AllocGlobal + Files<File = File> + time::Clock>(

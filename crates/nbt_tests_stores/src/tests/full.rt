@@ -12,7 +12,7 @@ use nbt_port::{MemoryClock, MemoryPort};
 use nbt_serve::{Share, Waiting, look_after};
 use nbt_server::Server;
 use nbt_store::{Change, Disk, DiskStore, MemoryDisk, Room, Store};
-use nbt_testing::{GRANTED, QUERY, REGISTRATION, RELEASE, RIVAL, clock};
+use nbt_testing::{GRANTED, QUERY, REFRESH, REFUSED, REGISTRATION, RELEASE, RIVAL, clock};
 use std::cell::Cell;
 use std::io::Write;
 use std::process::Abort;
@@ -31,6 +31,15 @@ const SECOND: Addr = Addr {
 const FOUND: &str = "0008 8580 reply FRED NB 60s unique 127.0.0.2";
 
 const FOUND_LATER: &str = "0008 8580 reply FRED NB 0000003b unique 127.0.0.2";
+
+/// What another machine asks for that has no lease.
+const RIVAL_REFRESH: &str = "0001 4000 two-parts FRED NB again NB 60s unique 127.0.0.3";
+
+const RIVAL_RELEASE: &str = "0002 3000 two-parts FRED NB again NB 0s unique 127.0.0.3";
+
+const OVERWRITE: &str = "0001 2800 two-parts FRED NB again NB 60s unique 127.0.0.3";
+
+const OTHER: &str = "0001 2900 two-parts TEAM NB again NB 60s unique 127.0.0.3";
 
 const RELEASED: &str = "0002 b400 reply FRED NB 0s unique 127.0.0.2";
 
@@ -59,7 +68,7 @@ impl Scene for Filled {
 const ROWS: &[Filled] = &[
     Filled {
         kept: Kept {
-            name: "a full disk: what asks for a change is lost, a query is answered, and with room all goes on",
+            name: "a full disk: a change is lost, what is refused and a query are answered, and with room all goes on",
             durable: 60_000,
             moments: &[60_000],
             given: &[
@@ -77,12 +86,17 @@ const ROWS: &[Filled] = &[
                 (Ok(()), 0, 4),
                 (Ok(()), 1, 5),
                 (Ok(()), 1, 5),
-                (Ok(()), 1, 5),
                 (Ok(()), 2, 5),
-                (Ok(()), 2, 6),
-                (Ok(()), 3, 7),
+                (Ok(()), 3, 5),
+                (Ok(()), 3, 6),
+                (Ok(()), 4, 7),
             ],
-            sent: &[(FIRST, GRANTED), (SECOND, FOUND), (FIRST, RELEASED)],
+            sent: &[
+                (FIRST, GRANTED),
+                (SECOND, REFUSED),
+                (SECOND, FOUND),
+                (FIRST, RELEASED),
+            ],
         },
         rooms: &[
             Room::Ample,
@@ -91,6 +105,53 @@ const ROWS: &[Filled] = &[
             Room::Scarce,
             Room::Scarce,
             Room::Ample,
+        ],
+        barred: 1,
+    },
+    Filled {
+        kept: Kept {
+            name: "a full disk: a release of another machine's, a refresh of a rival, a release of what it hasn't, an overwrite, and none of them changes anything; a renewal and a new name are lost",
+            durable: 60_000,
+            moments: &[60_000],
+            given: &[
+                (FIRST, REGISTRATION),
+                NOTHING,
+                (SECOND, RELEASE),
+                (SECOND, RIVAL_REFRESH),
+                (SECOND, RIVAL_RELEASE),
+                (SECOND, OVERWRITE),
+                (FIRST, REFRESH),
+                (SECOND, OTHER),
+            ],
+            port_fails: None,
+            trouble: None,
+            turns: &[
+                (Ok(()), 0, 4),
+                (Ok(()), 1, 5),
+                (Ok(()), 2, 5),
+                (Ok(()), 3, 5),
+                (Ok(()), 4, 5),
+                (Ok(()), 5, 5),
+                (Ok(()), 5, 5),
+                (Ok(()), 5, 5),
+            ],
+            sent: &[
+                (FIRST, GRANTED),
+                (SECOND, "0002 b405 reply FRED NB 0s unique 127.0.0.2"),
+                (SECOND, REFUSED),
+                (SECOND, "0002 b406 reply FRED NB 0s unique 127.0.0.3"),
+                (SECOND, "0001 ad85 reply FRED NB 0s unique 127.0.0.3"),
+            ],
+        },
+        rooms: &[
+            Room::Ample,
+            Room::Ample,
+            Room::Scarce,
+            Room::Scarce,
+            Room::TooLong,
+            Room::Scarce,
+            Room::Scarce,
+            Room::TooLong,
         ],
         barred: 2,
     },
@@ -261,10 +322,10 @@ const ROOMS: &[Room] = &[
 ];
 
 /// What is said of that: at once, after a minute, once there is room for no line, once the file is too long, and once there is room again.
-const SAID: &str = "nbt: the disk is full: requests but queries are lost until there is room\n\
-nbt: the disk is full: requests but queries are lost until there is room\n\
+const SAID: &str = "nbt: the disk is full: changes are lost until there is room\n\
+nbt: the disk is full: changes are lost until there is room\n\
 nbt: the disk is full: all requests are lost until there is room\n\
-nbt: the file has as many lines as it may: requests but queries are lost until it is written anew\n\
+nbt: the file has as many lines as it may: changes are lost until it is written anew\n\
 nbt: there is room again\n";
 
 /// A server that stays up over a disk that is full for a while.
@@ -300,8 +361,10 @@ impl Scene for Said {
 
 #[test]
 fn a_full_disk_is_said_once_a_minute(rt: HostRuntime) {
-    let given = &[NOTHING, NOTHING, NOTHING, NOTHING, NOTHING, NOTHING];
-    let moments = &[60_000, 119_999, 120_000, 120_001, 121_000, 122_000];
+    let given = &[
+        NOTHING, NOTHING, NOTHING, NOTHING, NOTHING, NOTHING, NOTHING,
+    ];
+    let moments = &[60_000, 119_999, 120_000, 120_001, 121_000, 121_500, 122_000];
     play_on(&rt, given, moments, &Said)
 }
 
