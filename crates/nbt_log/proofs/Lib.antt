@@ -8,3 +8,5 @@ mod Summing
 mod Filling
 -- how live names that read alike are spelled, row after row
 mod Alike
+-- a list, part after part
+mod Drafting

@@ -1,4 +1,5 @@
 pub mod Dates
+pub mod Drafts
 pub mod Kinds
 pub mod Leases
 pub mod Limiting

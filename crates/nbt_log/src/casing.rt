@@ -41,6 +41,14 @@ impl FixedCapitals {
         Ok(())
     }
 
+    /// The same names.
+    pub(crate) fn copy(&self) -> Result<FixedCapitals, AllocError>
+        ensures { IfOk result (λ names. names ≡ self.now) }
+    {
+        let names = self.names.clone()?;
+        Ok(FixedCapitals { names })
+    }
+
     /// Whether a name has these octets in capitals.
     fn has(&self, capitals: &[u8; 16]) -> bool
         ensures { IsTrue result ↔ Contains self.now capitals.now }

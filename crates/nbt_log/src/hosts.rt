@@ -4,39 +4,20 @@ ghost use Rattle.std.specs.Prelude.{◌≡◌, ◌++◌, ◌↔◌, ◌≤◌, �
 ghost use Rattle.std.specs.String.{string_bytes};
 ghost use Rattle.nbt_text.specs.SuffixedNames.{IsCutAt};
 ghost use Rattle.nbt_text.specs.Texts.{PrintsEach};
-ghost use Rattle.nbt_log.specs.Hosts.{HasHost, IsHost, IsSpace, PrintsHost, IsHosts, server_octets};
+ghost use Rattle.nbt_log.specs.Hosts.{HasHost, IsHost, IsSpace, PrintsHost, server_octets};
 ghost use Rattle.nbt_log.specs.Inner.Casing.{IsClearIn};
 
 use crate::casing::{Cases, FixedCapitals, may_tell};
 use nbt_lease::{Lease, Moment};
 use nbt_name::{Kind, Name};
 use nbt_text::{is_host_name, write_host};
-use std::alloc::{AllocError, Global};
+use std::alloc::AllocError;
 
 /// The first line of the hosts, with its end, which says what a file is (our profile). A resolver passes it over.
 pub const HOSTS_HEAD: &str = "# hosts of nbt nbns\n";
 
-/// Appends the hosts of these rows at `now`, in their order: the line [`HOSTS_HEAD`], and then a line as in /etc/hosts for each
-/// live lease of a unique name of suffix 20, a file server's, without a scope, as `192.0.2.7 FILER`. Left out is a name that is no host
-/// name: 1 to 15 letters, digits and hyphens, the first and the last of them no hyphen (RFC 952, RFC 1123 section 2.1), filled up with
-/// spaces. So is one that a resolver, to which small letters and capitals are one, would take for another: a name that reads like one
-/// that is fixed, and a name with a small letter that reads like a live lease of other octets.
-pub fn write_hosts(
-    alloc: Global,
-    now: Moment,
-    rows: &[(Name, Lease)],
-    fixed: &FixedCapitals,
-    out: &mut String,
-) -> Result<(), AllocError>
-    ensures { OnOk result ((text : List ℕ) × IsHosts now rows.now fixed.now text × (string_bytes out.new ≡ string_bytes out.old ++ text)) }
-{
-    let cases = Cases::of(alloc, now, rows)?;
-    out.push_str(HOSTS_HEAD)?;
-    write_rows(now, rows, fixed, &cases, out)
-}
-
-/// Appends the lines of the rows, in their order.
-fn write_rows(
+/// Appends the lines of the hosts of these rows at `now`, in their order, beside these names that are fixed and these that live.
+pub(crate) fn write_hosts(
     now: Moment,
     rows: &[(Name, Lease)],
     fixed: &FixedCapitals,

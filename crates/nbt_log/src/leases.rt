@@ -3,7 +3,7 @@
 ghost use Rattle.std.specs.Prelude.{◌≡◌, ◌++◌, ◌↔◌, ℕ, List, OnOk, IsTrue};
 ghost use Rattle.std.specs.String.{string_bytes};
 ghost use Rattle.nbt_text.specs.Texts.{PrintsEach};
-ghost use Rattle.nbt_log.specs.Leases.{IsLeaseText, PrintsRow, IsList, MayReplace, machine};
+ghost use Rattle.nbt_log.specs.Leases.{IsLeaseText, PrintsRow, MayReplace, machine};
 
 use crate::dates::Dates;
 use crate::time::write_time;
@@ -24,23 +24,8 @@ pub fn may_replace(head: &str, first: &[u8]) -> bool
     first.is_empty() || first == head.as_bytes()
 }
 
-/// Appends the list of the leases that live at `now`: the line [`LIST_HEAD`], and then a line for each of the rows whose lease
-/// lives, in their order: the name, its kind, the address, and the expiry, as `FILER#20 unique 192.0.2.7
-/// 2026-11-24T09:17:03Z`. A lease no longer lives at its expiry.
-pub fn write_list(
-    dates: &Dates,
-    now: Moment,
-    rows: &[(Name, Lease)],
-    out: &mut String,
-) -> Result<(), AllocError>
-    ensures { OnOk result ((text : List ℕ) × IsList dates.now now rows.now text × (string_bytes out.new ≡ string_bytes out.old ++ text)) }
-{
-    out.push_str(LIST_HEAD)?;
-    write_leases(dates, now, rows, out)
-}
-
 /// Appends a line for each of the rows whose lease lives at `now`, in their order.
-fn write_leases(
+pub(crate) fn write_leases(
     dates: &Dates,
     now: Moment,
     rows: &[(Name, Lease)],

@@ -12,6 +12,7 @@
 
 mod casing;
 mod dates;
+mod draft;
 mod entry;
 mod gauges;
 mod health;
@@ -29,11 +30,12 @@ mod time;
 
 pub use casing::FixedCapitals;
 pub use dates::Dates;
+pub use draft::{Draft, Listing, PART_MOST};
 pub use entry::{Entry, LineKind};
 pub use gauges::{Gauges, measure};
 pub use health::Health;
-pub use hosts::{HOSTS_HEAD, write_hosts};
-pub use leases::{LIST_HEAD, may_replace, write_list};
+pub use hosts::HOSTS_HEAD;
+pub use leases::{LIST_HEAD, may_replace};
 pub use limiter::{LINES_MOST, Limiter};
 pub use limiters::Limiters;
 pub use line::{write_entry, write_reason, write_seconds};

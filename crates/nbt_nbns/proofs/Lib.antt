@@ -4,8 +4,9 @@
 mod Beginning
 -- what is said of one that would begin
 mod Checks
--- what became of a look at the leases
+-- what became of a look at the statistics, and of one at a list
 mod Looking
+mod Listed
 -- what waits behind what was written of a log
 mod Outgoing
 -- what a watcher is shown after a turn, and what came of a turn

@@ -1,16 +1,17 @@
 -- The log of a server that is watched, and the files about it (our profile).
 use Rattle.std.specs.Prelude.{◌≡◌, ◌≢◌, ℕ, ◌-◌, List, Option, Some, None}
+use Rattle.nbt_lease.specs.Lease.{Rows}
 use Rattle.nbt_server.specs.Serving.{ServerValue}
 use Rattle.nbt_log.specs.Dates.{followed}
 use Rattle.nbt_log.specs.declared.dates.Dates.{Dates}
-use Rattle.nbt_log.specs.Hosts.{IsHosts}
+use Rattle.nbt_log.specs.Drafts.{ListingValue, leases, hosts}
 use Rattle.nbt_log.specs.Tallies.{counted}
 use Rattle.nbt_nbns.specs.Keeping.{KeeperValue, Keeps}
+use Rattle.nbt_nbns.specs.Listers.{ListerValue, ListsOn}
 use Rattle.nbt_nbns.specs.Logging.{LoggerValue, Prints}
-use Rattle.nbt_nbns.specs.Reports.{Lists, SaysStats}
+use Rattle.nbt_nbns.specs.Reports.{SaysStats}
 use Rattle.nbt_nbns.specs.declared.journal.Journal.{Journal}
 use Rattle.nbt_nbns.specs.declared.keeper.Kept.{Kept}
-use Rattle.nbt_nbns.specs.declared.report.Listing.TheVariants as listing
 use Rattle.nbt_nbns.specs.declared.staying.Shown.{Shown}
 
 -- Where there is a log, it has the line of what is shown now, if that is printed. Where memory was refused, or the log can't be
@@ -24,6 +25,11 @@ pub data LogsIn (dates : Dates) (shown : Shown) (old_text : Option (List ℕ)) :
 pub data KeepsIn {L : Type 0} (puts : L → List ℕ → L → Type 0) (IsText : List ℕ → Type 0) (now : ℕ) : (old new : Option (KeeperValue L)) → Type 0 where
   not_kept : KeepsIn puts IsText now None None
   looked : (old : KeeperValue L) (kept : Kept) (new : KeeperValue L) → Keeps puts IsText now old kept new → KeepsIn puts IsText now (Some old) (Some new)
+
+-- Where a listing of these rows is kept, they are looked at.
+pub data ListsIn {L : Type 0} (puts : L → List ℕ → L → Type 0) (listing : ListingValue) (rows : Rows) (now : ℕ) : (old new : Option (ListerValue L)) → Type 0 where
+  not_listed : ListsIn puts listing rows now None None
+  listed : (old : ListerValue L) (kept : Kept) (new : ListerValue L) → ListsOn puts listing rows now old kept new → ListsIn puts listing rows now (Some old) (Some new)
 
 -- how many lines a log dropped of which no note tells yet
 abbrev pub dropped_of : Option LoggerValue → ℕ
@@ -43,7 +49,7 @@ pub record Journals {D L : Type 0} (tells : D → ℕ → D → Type 0) (puts : 
   pub logs : LogsIn new.dates shown old_text old.log new.log text
   pub tally_is : new.tally ≡ counted shown.entry (dropped_of new.log - dropped_of old.log) old.tally
   pub origin_is : new.origin ≡ old.origin
-  pub leases_kept : KeepsIn puts (Lists listing.Leases server new.dates shown.at) shown.at old.leases new.leases
+  pub leases_kept : ListsIn puts (leases new.dates) server.table.rows shown.at old.leases new.leases
   pub fixed_are : new.fixed ≡ old.fixed
-  pub hosts_kept : KeepsIn puts (IsHosts shown.at server.table.rows new.fixed) shown.at old.hosts new.hosts
+  pub hosts_kept : ListsIn puts (hosts new.fixed) server.table.rows shown.at old.hosts new.hosts
   pub stats_kept : KeepsIn puts (SaysStats (record { tally = new.tally; health = shown.health; origin = new.origin }) server new.dates shown.at) shown.at old.stats new.stats

@@ -5,6 +5,7 @@ pub mod Inner
 pub mod Journaling
 pub mod Keeping
 pub mod Limits
+pub mod Listers
 pub mod Logging
 pub mod Outboxes
 pub mod Places

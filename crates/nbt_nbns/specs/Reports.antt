@@ -1,21 +1,12 @@
 -- The texts about a name server that can be kept (our profile).
 use Rattle.std.specs.Prelude.{◌≡◌, ℕ, ◌-◌, List}
 use Rattle.nbt_log.specs.Dates.{second_at}
-use Rattle.nbt_log.specs.Leases.{IsList}
 use Rattle.nbt_log.specs.declared.dates.Dates.{Dates}
 use Rattle.nbt_log.specs.Gauges.{gauges_of}
-use Rattle.nbt_log.specs.Hosts.{IsHosts}
 use Rattle.nbt_log.specs.Stats.{stats_text}
 use Rattle.nbt_log.specs.declared.stats.Figures.{Figures}
 use Rattle.nbt_server.specs.Serving.{ServerValue}
-use Rattle.nbt_nbns.specs.declared.report.Listing.{Listing}
-use Rattle.nbt_nbns.specs.declared.report.Listing.TheVariants.{Leases, Hosts}
 use Rattle.nbt_nbns.specs.declared.report.StatsReport.{StatsReport}
-
--- the live leases, or the hosts beside names that are fixed
-abbrev pub Lists : Listing → ServerValue → Dates → (now : ℕ) → List ℕ → Type 0
-Lists Leases server dates now text = IsList dates now server.table.rows text
-Lists (Hosts fixed) server dates now text = IsHosts now server.table.rows fixed.now text
 
 -- what the statistics say of a server at a moment
 abbrev pub figures_of : StatsReport → ServerValue → Dates → (now : ℕ) → Figures

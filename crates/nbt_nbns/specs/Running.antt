@@ -26,6 +26,7 @@ use Rattle.nbt_serve.specs.SambaPort.{HandsOn}
 use Rattle.nbt_nbns.specs.Begin.{IsBegin, manner_at_first}
 use Rattle.nbt_nbns.specs.Journaling.{Journals}
 use Rattle.nbt_nbns.specs.Keeping.{KeeperValue, new_keeper}
+use Rattle.nbt_nbns.specs.Listers.{ListerValue, new_lister}
 use Rattle.nbt_nbns.specs.Logging.{LoggerValue, new_logger}
 use Rattle.nbt_nbns.specs.Places.{FileValue, file_of, Stays}
 use Rattle.nbt_nbns.specs.Folders.{FolderDoes}
@@ -55,10 +56,19 @@ PortFailures fronted = fronted.port.failures
 abbrev pub log_of : (log broadcasts : Bool) → (most : ℕ) → Option LoggerValue
 log_of log broadcasts most = if log then Some (new_logger broadcasts most) else None
 
--- what was not kept yet in the file of this path, if there is to be one
-abbrev pub keeper_of : {A : Type 0} → Content → Option (String A) → Option (KeeperValue FileValue)
-keeper_of content None = None
-keeper_of content (Some path) = Some (new_keeper (file_of content (string_bytes path)))
+-- the file of this path, if there is to be one
+abbrev pub place_of : {A : Type 0} → Content → Option (String A) → Option FileValue
+place_of content None = None
+place_of content (Some path) = Some (file_of content (string_bytes path))
+
+-- what was not listed or kept yet in a place, if there is one
+abbrev pub lister_of : {L : Type 0} → Option L → Option (ListerValue L)
+lister_of None = None
+lister_of (Some place) = Some (new_lister place)
+
+abbrev pub keeper_of : {L : Type 0} → Option L → Option (KeeperValue L)
+keeper_of None = None
+keeper_of (Some place) = Some (new_keeper place)
 
 -- when a server began that serves from now on, by these dates, and that first began at `start`, before its silence
 abbrev pub origin_of : Dates → (start longest : ℕ) → Origin
@@ -71,10 +81,10 @@ new_journal a dates day start = record {
   day = day;
   day_read = dates.moment;
   log = log_of a.log a.broadcasts a.log_rate;
-  leases = keeper_of content.Leases a.leases;
-  hosts = keeper_of content.Hosts a.hosts;
+  leases = lister_of (place_of content.Leases a.leases);
+  hosts = lister_of (place_of content.Hosts a.hosts);
   fixed = capitals_of a.front.fixed;
-  stats = keeper_of content.Stats a.stats;
+  stats = keeper_of (place_of content.Stats a.stats);
   tally = no_tally;
   origin = origin_of dates start a.config.longest;
 }

@@ -1,16 +1,18 @@
 //! The log of a name server, and the files about it, turn by turn.
 
 ghost use Rattle.std.specs.Prelude.{◌≡◌};
-ghost use Rattle.nbt_nbns.specs.Journaling.{FollowsDay, LogsIn, KeepsIn, dropped_of};
+ghost use Rattle.nbt_log.specs.Drafts.{listing_of};
+ghost use Rattle.nbt_nbns.specs.Journaling.{FollowsDay, ListsIn, LogsIn, KeepsIn, dropped_of};
 ghost use Rattle.nbt_nbns.specs.Reports.{SaysStats};
 
 use crate::keeper::Keeper;
+use crate::lister::Lister;
 use crate::logger::Logger;
 use crate::place::Place;
-use crate::report::{Listing, Report, StatsReport};
+use crate::report::StatsReport;
 use crate::staying::{Shown, Watcher};
 use nbt_lease::Moment;
-use nbt_log::{Dates, FixedCapitals, Origin, Tally};
+use nbt_log::{Dates, FixedCapitals, Listing, Origin, Tally};
 use nbt_port::Clock;
 use nbt_server::Server;
 use std::io::Write;
@@ -28,9 +30,9 @@ pub struct Journal<D, L> {
     /// The log, if there is one.
     pub log: Option<Logger>,
     /// The list of live leases, if it is kept.
-    pub leases: Option<Keeper<L>>,
+    pub leases: Option<Lister<L>>,
     /// The hosts, if they are kept.
-    pub hosts: Option<Keeper<L>>,
+    pub hosts: Option<Lister<L>>,
     /// The names that are fixed: no host is told that reads like one of them.
     pub fixed: FixedCapitals,
     /// The statistics, if they are kept.
@@ -58,24 +60,10 @@ impl<D: Clock, L: Place> Watcher for Journal<D, L> {
         log_in(&mut self.log, self.dates, shown, writer, errors);
         let dropped = dropped_of(&self.log).saturating_sub(before);
         self.tally.count(&shown.entry, dropped);
-        let leases = Listing::Leases;
-        keep_in(
-            &mut self.leases,
-            &leases,
-            server,
-            self.dates,
-            shown.at,
-            errors,
-        );
+        let leases = Listing::Leases(self.dates);
+        list_in(&mut self.leases, &leases, server, shown.at, errors);
         let hosts = Listing::Hosts(&self.fixed);
-        keep_in(
-            &mut self.hosts,
-            &hosts,
-            server,
-            self.dates,
-            shown.at,
-            errors,
-        );
+        list_in(&mut self.hosts, &hosts, server, shown.at, errors);
         keep_stats(
             &mut self.stats,
             &self.tally,
@@ -125,19 +113,18 @@ fn log_in<W: Write, E: Write>(
     }
 }
 
-/// Looks at what there is to report, if its text is kept.
-fn keep_in<T: Report, L: Place, E: Write>(
-    kept: &mut Option<Keeper<L>>,
-    report: &T,
+/// Looks at the rows of a server, if a list of them is kept.
+fn list_in<L: Place, E: Write>(
+    kept: &mut Option<Lister<L>>,
+    listing: &Listing<'_>,
     server: &Server,
-    dates: Dates,
     now: Moment,
     errors: &mut E,
 )
-    ensures { KeepsIn L.puts (T.says report.now server.now dates now) now kept.old kept.new }
+    ensures { ListsIn L.puts (listing_of listing.now) server.now.table.rows now kept.old kept.new }
 {
-    if let Some(keeper) = kept {
-        keeper.keep(report, server, &dates, now, errors);
+    if let Some(lister) = kept {
+        lister.keep(listing, server, now, errors);
     }
 }
 

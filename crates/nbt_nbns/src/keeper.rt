@@ -27,6 +27,8 @@ pub enum Kept {
     Same,
     /// The place has the text now.
     Written,
+    /// A part of a list was made, and it isn't whole yet.
+    Unfinished,
     /// Memory was refused, or the place refused it.
     Failed,
 }
@@ -134,7 +136,7 @@ fn is_due(looked: Option<Moment>, now: Moment) -> bool
 }
 
 /// Whether the place has this text.
-fn has(text: &Option<String>, other: &str) -> bool
+pub(crate) fn has(text: &Option<String>, other: &str) -> bool
     ensures { IsTrue result ↔ (text_of text.now ≡ Some other.now) }
 {
     match text {

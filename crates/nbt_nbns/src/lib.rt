@@ -16,6 +16,7 @@ mod keeper;
 mod keeping;
 pub mod laws;
 mod limits;
+mod lister;
 mod logger;
 mod opening;
 mod outbox;
@@ -45,11 +46,12 @@ pub use keeping::keep_on;
 pub use limits::{
     HOLDS_LEAST, Judged, LIVES_LEAST, LONGEST_QUIET, judge, write_refusal, write_warning,
 };
+pub use lister::Lister;
 pub use logger::Logger;
 pub use outbox::Outbox;
 pub use place::{FilePlace, MemoryPlace, Place};
 pub use renewing::{NotesFixed, Renewable, keep_renewed};
-pub use report::{Listing, Report, StatsReport};
+pub use report::{Report, StatsReport};
 pub use running::run_nbns;
 pub use server::{Folder, run_server};
 pub use starting::journal_of;

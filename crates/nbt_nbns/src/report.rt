@@ -8,10 +8,7 @@ ghost use Rattle.nbt_server.specs.Serving.{ServerValue};
 ghost use Rattle.nbt_nbns.specs.Reports.{figures_of};
 
 use nbt_lease::{Lease, Moment};
-use nbt_log::{
-    Dates, Figures, FixedCapitals, Health, Origin, Tally, measure, write_hosts, write_list,
-    write_stats,
-};
+use nbt_log::{Dates, Figures, Health, Origin, Tally, measure, write_stats};
 use nbt_name::Name;
 use nbt_server::Server;
 use std::alloc::{AllocError, Global};
@@ -31,36 +28,6 @@ pub trait Report {
         out: &mut String,
     ) -> Result<(), AllocError>
         ensures { OnOk result ((text : List ℕ) × says self.now server.now dates.now now text × (string_bytes out.new ≡ string_bytes out.old ++ text)) };
-}
-
-/// What of a server's rows is listed.
-#[derive(Clone, Copy)]
-pub enum Listing<'a> {
-    /// The live leases, as [`write_list`] has them.
-    Leases,
-    /// The hosts, as [`write_hosts`] has them, beside these names that are fixed.
-    Hosts(&'a FixedCapitals),
-}
-
-impl Report for Listing<'_> {
-    ghost use Rattle.nbt_nbns.specs.Reports.{Lists};
-
-    ghost says = { Lists };
-
-    fn write(
-        &self,
-        alloc: Global,
-        server: &Server,
-        dates: &Dates,
-        now: Moment,
-        out: &mut String,
-    ) -> Result<(), AllocError> {
-        let rows = rows_of(alloc, server)?;
-        match self {
-            Listing::Leases => write_list(dates, now, rows.as_slice(), out),
-            Listing::Hosts(fixed) => write_hosts(alloc, now, rows.as_slice(), fixed, out),
-        }
-    }
 }
 
 /// The statistics, as [`write_stats`] has them.
@@ -102,7 +69,7 @@ impl Report for StatsReport {
 }
 
 /// All rows of a server's table.
-fn rows_of(alloc: Global, server: &Server) -> Result<Vec<(Name, Lease)>, AllocError>
+pub(crate) fn rows_of(alloc: Global, server: &Server) -> Result<Vec<(Name, Lease)>, AllocError>
     ensures { IfOk result (λ rows. rows.items ≡ server.now.table.rows) }
 {
     let mut rows = Vec::new(alloc);

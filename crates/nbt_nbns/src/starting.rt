@@ -4,7 +4,7 @@ ghost use Rattle.std.specs.Prelude.{◌≡◌, ◌⊎◌, ℕ, List, [], OnOk, I
 ghost use Rattle.std.specs.Io.KnownBytes.{Appends};
 ghost use Rattle.nbt_name.specs.declared.addr.Addr.{Addr};
 ghost use Rattle.nbt_nbns.specs.Begin.{IsBegin, manner_at_first};
-ghost use Rattle.nbt_nbns.specs.Running.{StartsAnew, log_of, keeper_of, origin_of, new_journal};
+ghost use Rattle.nbt_nbns.specs.Running.{StartsAnew, log_of, keeper_of, lister_of, place_of, origin_of, new_journal};
 ghost use Rattle.nbt_nbns.specs.Inner.Starting.{Starts, StartsNot};
 
 use crate::arguments::NbnsArguments;
@@ -14,6 +14,7 @@ use crate::first_line::{Manner, manner_at_first, write_begin};
 use crate::folder::FolderStore;
 use crate::journal::Journal;
 use crate::keeper::Keeper;
+use crate::lister::Lister;
 use crate::logger::Logger;
 use crate::place::FilePlace;
 use crate::state::State;
@@ -154,9 +155,9 @@ pub fn journal_of<'a, M: Files, D: Drop, E: Write>(
     ensures ok { IfOk result (λ journal. journal ≡ new_journal arguments.now dates day start) }
     ensures err { IfErr result (λ fault. (fault ≡ Fault.Output) ⊎ (fault ≡ Fault.Memory)) }
 {
-    let leases = keeper_of(machine, alloc, Content::Leases, &arguments.leases, errors)?;
-    let hosts = keeper_of(machine, alloc, Content::Hosts, &arguments.hosts, errors)?;
-    let stats = keeper_of(machine, alloc, Content::Stats, &arguments.stats, errors)?;
+    let leases = place_of(machine, alloc, Content::Leases, &arguments.leases, errors)?;
+    let hosts = place_of(machine, alloc, Content::Hosts, &arguments.hosts, errors)?;
+    let stats = place_of(machine, alloc, Content::Stats, &arguments.stats, errors)?;
     Ok(Journal {
         dates,
         day,
@@ -167,10 +168,10 @@ pub fn journal_of<'a, M: Files, D: Drop, E: Write>(
             arguments.broadcasts,
             arguments.log_rate,
         ),
-        leases,
-        hosts,
+        leases: lister_of(alloc, leases),
+        hosts: lister_of(alloc, hosts),
         fixed: arguments.front.fixed().capitals(alloc)?,
-        stats,
+        stats: keeper_of(alloc, stats),
         tally: Tally::new(),
         origin: origin_of(&dates, start, arguments.config),
     })
@@ -197,16 +198,36 @@ fn origin_of(dates: &Dates, start: Moment, config: Config) -> Origin
     }
 }
 
-/// What is kept in the file of this path, if there is to be one. Refused: `Memory`; `Output` where it may not be put in place of what
-/// stands there, and a line in `errors` says why.
-fn keeper_of<'a, M: Files, E: Write>(
+/// What lists into this place, if there is one.
+fn lister_of<L>(alloc: Global, place: Option<L>) -> Option<Lister<L>>
+    ensures { result ≡ lister_of place }
+{
+    match place {
+        Some(place) => Some(Lister::new(alloc, place)),
+        None => None,
+    }
+}
+
+/// What keeps a text in this place, if there is one.
+fn keeper_of<L>(alloc: Global, place: Option<L>) -> Option<Keeper<L>>
+    ensures { result ≡ keeper_of place }
+{
+    match place {
+        Some(place) => Some(Keeper::new(alloc, place)),
+        None => None,
+    }
+}
+
+/// The file of this path, if there is to be one. Refused: `Memory`; `Output` where it may not be put in place of what stands there, and a
+/// line in `errors` says why.
+fn place_of<'a, M: Files, E: Write>(
     machine: &'a M,
     alloc: Global,
     content: Content,
     path: &Option<String>,
     errors: &mut E,
-) -> Result<Option<Keeper<FilePlace<'a, M>>>, Fault>
-    ensures ok { IfOk result (λ kept. kept ≡ keeper_of content path.now) }
+) -> Result<Option<FilePlace<'a, M>>, Fault>
+    ensures ok { IfOk result (λ place. place ≡ place_of content path.now) }
     ensures err { IfErr result (λ fault. (fault ≡ Fault.Output) ⊎ (fault ≡ Fault.Memory)) }
 {
     let Some(path) = path else {
@@ -217,5 +238,5 @@ fn keeper_of<'a, M: Files, E: Write>(
         complain(path, error, errors);
         return Err(Fault::Output);
     }
-    Ok(Some(Keeper::new(alloc, place)))
+    Ok(Some(place))
 }

@@ -13,7 +13,7 @@ use nbt_front::{Desk, Front, FrontPort, read_fixed, read_network};
 use nbt_lease::{Config, Lease, Moment};
 use nbt_log::{Dates, FixedCapitals, Origin, Tally};
 use nbt_name::Name;
-use nbt_nbns::{Content, Journal, Keeper, Logger, State, keep_renewed};
+use nbt_nbns::{Content, Journal, Keeper, Lister, Logger, State, keep_renewed};
 use nbt_port::{Fault, Port, until_of};
 use nbt_serve::SambaPort;
 use nbt_server::Server;
@@ -162,10 +162,10 @@ fn journal_of<'s, 'a>(
         day: Day(stage),
         day_read: dates.moment,
         log: log_of(alloc, texts),
-        leases: keeper_of(stage, alloc, texts.leases, Content::Leases),
-        hosts: keeper_of(stage, alloc, texts.hosts, Content::Hosts),
+        leases: lister_of(stage, alloc, texts.leases, Content::Leases),
+        hosts: lister_of(stage, alloc, texts.hosts, Content::Hosts),
         fixed,
-        stats: keeper_of(stage, alloc, texts.stats, Content::Stats),
+        stats: keeper_of(stage, alloc, texts.stats),
         tally: Tally::new(),
         origin: Origin {
             since: dates.second_at(dates.moment.get()),
@@ -190,15 +190,27 @@ fn log_rate_of(texts: &NbnsTexts<'_>) -> u8 {
     }
 }
 
-/// What is kept in a file, if there is to be one.
-fn keeper_of<'s, 'a>(
+/// The list that is kept in a file, if there is to be one.
+fn lister_of<'s, 'a>(
     stage: &'s Stage<'a>,
     alloc: Global,
     path: Option<&str>,
     content: Content,
+) -> Option<Lister<ScenePlace<'s, 'a>>> {
+    match path {
+        Some(_) => Some(Lister::new(alloc, ScenePlace::new(stage, content))),
+        None => None,
+    }
+}
+
+/// The statistics that are kept in a file, if there are to be some.
+fn keeper_of<'s, 'a>(
+    stage: &'s Stage<'a>,
+    alloc: Global,
+    path: Option<&str>,
 ) -> Option<Keeper<ScenePlace<'s, 'a>>> {
     match path {
-        Some(_) => Some(Keeper::new(alloc, ScenePlace::new(stage, content))),
+        Some(_) => Some(Keeper::new(alloc, ScenePlace::new(stage, Content::Stats))),
         None => None,
     }
 }

@@ -1,9 +1,0 @@
-use Rattle.std.proofs.Common.{◌++◌, refl}
-use Rattle.std.specs.String.{string_bytes}
-use Rattle.nbt_text.proofs.Joining.{OnOk-map, two_parts}
-use Rattle.nbt_log.specs.Leases.{list_head}
-use Rattle.nbt_log.proofs.leases.write_list.Goals as goal
-
-pub returns : goal.returns
-returns c =
-    OnOk-map c.write_leases.result c.write_leases.ensures (λ lines. (list_head ++ lines.0, (lines.0, lines.1, refl), two_parts (string_bytes c.args.out.now) _ _ list_head lines.0 c.in_ok-push_str.ensures.bytes lines.2))

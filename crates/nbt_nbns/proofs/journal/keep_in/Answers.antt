@@ -1,8 +1,0 @@
-use Rattle.nbt_nbns.specs.Journaling.{not_kept, looked}
-use Rattle.nbt_nbns.proofs.journal.keep_in.Goals as goal
-
-pub returns-in-Some : goal.returns-in-Some
-returns-in-Some g c = rw c.in-Some.is (looked c.in-Some.keeper c.keep.result c.keep.new.self c.keep.ensures)
-
-pub returns-in_default : goal.returns-in_default
-returns-in_default g c = rw c.in_default.is not_kept
