@@ -20,12 +20,12 @@ use Rattle.nbt_host.specs.Hosting.{sending_to, RequestsAll, of_none, of_next, Br
 use Rattle.nbt_net.specs.Wire.{Act}
 use Rattle.nbt_net.specs.Hosts.{HostLives}
 use Rattle.nbt_net.specs.Turns.{calls_in}
-use Rattle.nbt_net.specs.Devices.{Call, of_port, reads, Story, going_on, AreAt, IsOfAnAct, AreActs, is_quiet, acts_at, acts_on, IsQuiet, MachineDoes, StoreDoes}
-use Rattle.nbt_net.specs.Hosting.{TellsOrLooks, NoStore, host_machine}
+use Rattle.nbt_net.specs.Devices.{Call, of_port, reads, Story, going_on, AreAt, IsOfAnAct, AreActs, is_quiet, acts_at, acts_on, IsQuiet, MachineDoes, StoreDoes, NoStore}
+use Rattle.nbt_net.specs.Hosting.{TellsOrLooks, host_machine}
 use Rattle.nbt_net.proofs.Ends.{nothing_at}
 use Rattle.nbt_net.proofs.HostTurns.{Does}
 use Rattle.nbt_net.proofs.Ordering.{ports_in, read_in, kept_in, put_in_order, sends_in, calls_of, ports_both, read_both, kept_both}
-use Rattle.nbt_net.proofs.Parts.{IsInOrder, all_in_order, Part, just_acted}
+use Rattle.nbt_net.proofs.Parts.{IsInOrder, all_in_order, Always, Part, just_acted}
 
 -- ---- lists
 
@@ -89,9 +89,6 @@ pub polls_broken_quietly : {now : ℕ} {old new : NodeValue} {calls : List PortC
 polls_broken_quietly {now} {old} (at_send polling mid new to octets chain poll) = none_came polling (send_failed (route_to to) octets ∷ []) (polled_so now polling old mid chain) refl
 
 -- ---- acts at one look
-
-abbrev pub Always : Story → Type 0
-Always story = Unit {0}
 
 -- what acts at a look send, they send before the clock is read again
 sends_now : (story : Story) (now : ℕ) (acts : List Act) → AreAt now acts → (to : Route) (octets : List ℕ) → Contains (calls_in acts) (sent to octets) ⊎ Contains (calls_in acts) (send_failed to octets) → IsOfAnAct 0 (going_on now acts story) to octets

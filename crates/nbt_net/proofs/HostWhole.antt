@@ -27,8 +27,8 @@ use Rattle.nbt_host.specs.Turning.{GoesThrough, TakesTurn, BreaksTurn, TurnsWell
 use Rattle.nbt_net.specs.Hosts as hosts
 use Rattle.nbt_net.specs.Hosts.{HostLives}
 use Rattle.nbt_net.specs.Servers.{act_at}
-use Rattle.nbt_net.specs.Devices.{reads, going_on, acts_at, ends as acts_end}
-use Rattle.nbt_net.specs.Hosting.{TellsOrLooks, NoStore, host_machine, HostIsLived, HostsAreLived, FailedHostsAreLived}
+use Rattle.nbt_net.specs.Devices.{NoStore, reads, going_on, acts_at, ends as acts_end}
+use Rattle.nbt_net.specs.Hosting.{TellsOrLooks, host_machine, HostIsLived, HostsAreLived, FailedHostsAreLived}
 use Rattle.nbt_net.proofs.HostTurns.{Does, does_one, does_both, all_requested, requests_broken, all_polled, polls_broken, wakes_up}
 use Rattle.nbt_net.proofs.HostParts.{asked_quietly, broken_quietly, polled_quietly, polls_broken_quietly, none_came, HostPart, one_look, all_heard, reply_lost, slept_through}
 use Rattle.nbt_net.proofs.Ordering.{chain_split}

@@ -5,7 +5,7 @@ mod Later
 -- by which clock a server goes on, and the last time of a file
 mod Onwards
 -- a start that goes on with what a crash left
-mod Started
+pub mod Started
 -- one end of a world changes, and what was sent of it
 mod Ends
 -- what a host says to who sent it a datagram
@@ -29,7 +29,7 @@ mod Parts
 -- a life that is cut off
 mod Cutting
 -- all turns of what stays up
-mod Staying
+pub mod Staying
 -- a host's turns with its devices, and a whole host
 mod HostParts
 mod HostWhole
@@ -37,3 +37,13 @@ mod HostWhole
 mod Again
 -- what stands before a server
 mod Fronting
+-- a server's turns with its devices, with a state and without one
+mod ServerParts
+mod UnkeptParts
+-- a look at its file
+mod Looks
+-- a port that changes between its calls
+mod Changing
+-- a server at work with its devices
+pub mod Working
+pub mod BareWorking

@@ -53,6 +53,10 @@ all_stored slack story (call ∷ calls) = (tt, all_stored slack story calls)
 
 -- ---- parts
 
+-- nothing is known
+abbrev pub Always : Story → Type 0
+Always story = Unit {0}
+
 module _ {E P C S : Type 0} (lives : E → Act → E → Type 0) (slack : ℕ) (does : P → PortCall → P → Type 0) (tells : C → ℕ → C → Type 0) (keeps : S → StoreCall → S → Type 0) where
   -- After a story of which this is known the program made these calls, which are acts of its life, and that is known then.
   pub record Part (Known : Story → Type 0) (old_end : E) (old : Machine P C S) (Then : Story → Type 0) (new_end : E) (new : Machine P C S) : Type 0 where
@@ -62,10 +66,10 @@ module _ {E P C S : Type 0} (lives : E → Act → E → Type 0) (slack : ℕ) (
     pub lived : Chain lives old_end acts new_end
     pub goes : (story : Story) → Known story → (after : Story) × (after.acts ≡ story.acts ++ acts) × AreActs slack story calls after × Then after
 
-  pub no_part : {Known : Story → Type 0} {old_end new_end : E} {old new : Machine P C S} → new_end ≡ old_end → new ≡ old → Part Known old_end old Known new_end new
+  unfoldable pub no_part : {Known : Story → Type 0} {old_end new_end : E} {old new : Machine P C S} → new_end ≡ old_end → new ≡ old → Part Known old_end old Known new_end new
   no_part end_is is = record { calls = []; acts = []; did = is; lived = end_is; goes = λ story known. (story, sym (append-nil story.acts), ends story, known) }
 
-  pub parts : {Known Mid Then : Story → Type 0} {old_end mid_end new_end : E} {old mid new : Machine P C S} → Part Known old_end old Mid mid_end mid → Part Mid mid_end mid Then new_end new → Part Known old_end old Then new_end new
+  unfoldable pub parts : {Known Mid Then : Story → Type 0} {old_end mid_end new_end : E} {old mid new : Machine P C S} → Part Known old_end old Mid mid_end mid → Part Mid mid_end mid Then new_end new → Part Known old_end old Then new_end new
   parts {old_end = old_end} {mid_end} {new_end} {old} {mid} {new} a b = record {
     calls = a.calls ++ b.calls;
     acts = a.acts ++ b.acts;
@@ -78,7 +82,7 @@ module _ {E P C S : Type 0} (lives : E → Act → E → Type 0) (slack : ℕ) (
   }
 
   -- the clock is read, and nothing is done
-  pub read_alone : {Known : Story → Type 0} {end : E} {old new : Machine P C S} (now : ℕ) → ((story : Story) → Known story → Known (going_on now [] story)) → tells old.clock now new.clock → new.port ≡ old.port → new.store ≡ old.store → Part Known end old Known end new
+  unfoldable pub read_alone : {Known : Story → Type 0} {end : E} {old new : Machine P C S} (now : ℕ) → ((story : Story) → Known story → Known (going_on now [] story)) → tells old.clock now new.clock → new.port ≡ old.port → new.store ≡ old.store → Part Known end old Known end new
   read_alone {end = end} {old} {new} now still told port store = record {
     calls = reads now ∷ [];
     acts = [];
@@ -89,7 +93,7 @@ module _ {E P C S : Type 0} (lives : E → Act → E → Type 0) (slack : ℕ) (
 
   -- ---- the whole
 
-  pub whole : {Known Then : Story → Type 0} {old_end new_end : E} {old new : Machine P C S} → Known no_story → Part Known old_end old Then new_end new → IsLived lives slack does tells keeps old_end old new_end new
+  unfoldable pub whole : {Known Then : Story → Type 0} {old_end new_end : E} {old new : Machine P C S} → Known no_story → Part Known old_end old Then new_end new → IsLived lives slack does tells keeps old_end old new_end new
   whole {old_end = old_end} {new_end} known part =
       let all = part.goes no_story known in
       record {

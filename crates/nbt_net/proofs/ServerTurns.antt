@@ -24,7 +24,7 @@ use Rattle.nbt_net.proofs.Ends.{nothing_at}
 -- ---- turns
 
 module _ (config : ConfigValue) where
-  one_lived : {old new : ServerValue} {turn : Turn} → Turns old turn new → Chain (ServerLives config) (up old) (act_of turn) (up new)
+  pub one_lived : {old new : ServerValue} {turn : Turn} → Turns old turn new → Chain (ServerLives config) (up old) (act_of turn) (up new)
   one_lived passes = refl
   one_lived {old} {new} (takes now from octets reply _ does) = (up new, takes_turn now (is_taken now from octets reply) old new (refl, tt) (takes now from octets reply new does), refl)
   one_lived {old} (goes_back now from octets early) = (up old, takes_turn now (is_lost now from octets) old old (refl, tt) (goes_back now from octets early), refl)

@@ -53,7 +53,7 @@ ShiftedTells = (more : ℕ) (server : ServerValue) (now : ℕ) → TellsAlike mo
 
 -- ---- turns keep a server's start and its limits
 
-turn_keeps : (old : ServerValue) (turn : Turn) (new : ServerValue) → Turns old turn new → (new.start ≡ old.start) × (new.table.config ≡ old.table.config)
+pub turn_keeps : (old : ServerValue) (turn : Turn) (new : ServerValue) → Turns old turn new → (new.start ≡ old.start) × (new.table.config ≡ old.table.config)
 turn_keeps old _ _ passes = (refl, refl)
 turn_keeps old _ _ (takes now from octets reply new does) = (does.start, does.config)
 turn_keeps old _ _ (goes_back now from octets early) = (refl, refl)

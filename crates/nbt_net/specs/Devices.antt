@@ -6,6 +6,7 @@ use Rattle.nbt_port.specs.declared.port.Route.{Route}
 use Rattle.nbt_port.specs.Memory.{came_in, to as datagram_to}
 use Rattle.nbt_port.specs.PortCalls.{PortCall, came, sent, send_failed, Chain}
 use Rattle.nbt_store.specs.Calls.{StoreCall}
+use Rattle.nbt_serve.specs.Devices.{DeviceCall, on_port, on_store}
 use Rattle.nbt_net.specs.Wire.{Act}
 use Rattle.nbt_net.specs.Turns.{calls_in}
 
@@ -29,11 +30,22 @@ StoreDoes keeps None call new = ⊥
 StoreDoes keeps (Some old) call None = ⊥
 StoreDoes keeps (Some old) call (Some new) = keeps old call new
 
+-- a program has no store
+abbrev pub NoStore : Unit {0} → StoreCall → Unit {0} → Type 0
+NoStore old call new = ⊥
+
 -- A call is one of its own device, and leaves the others as they are.
 abbrev pub MachineDoes : {P C S : Type 0} → (P → PortCall → P → Type 0) → (C → ℕ → C → Type 0) → (S → StoreCall → S → Type 0) → Machine P C S → Call → Machine P C S → Type 0
 MachineDoes does tells keeps old (of_port call) new = does old.port call new.port × (new.clock ≡ old.clock) × (new.store ≡ old.store)
 MachineDoes does tells keeps old (reads now) new = tells old.clock now new.clock × (new.port ≡ old.port) × (new.store ≡ old.store)
 MachineDoes does tells keeps old (of_store call) new = StoreDoes keeps old.store call new.store × (new.port ≡ old.port) × (new.clock ≡ old.clock)
+
+-- the calls of its port and of its store alone
+abbrev pub devices_in : List Call → List DeviceCall
+devices_in [] = []
+devices_in (of_port call ∷ calls) = on_port call ∷ devices_in calls
+devices_in (reads now ∷ calls) = devices_in calls
+devices_in (of_store call ∷ calls) = on_store call ∷ devices_in calls
 
 -- ---- the acts that it is
 

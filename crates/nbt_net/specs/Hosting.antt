@@ -4,21 +4,16 @@ use Rattle.nbt_node.specs.Node.{NodeValue}
 use Rattle.nbt_port.specs.PortCalls.{PortCall}
 use Rattle.nbt_port.specs.Udp.{UdpValue, UdpDoes}
 use Rattle.nbt_port.specs.declared.fault.Fault.{Fault}
-use Rattle.nbt_store.specs.Calls.{StoreCall}
 use Rattle.nbt_host.specs.Running.{HostsHere, HostFailsHere, LooksHere, TellsHere}
 use Rattle.nbt_host.specs.declared.arguments.HostArguments.{HostArguments}
 use Rattle.nbt_host.specs.declared.watching.Look.{Look}
 use Rattle.nbt_host.specs.declared.watching.WatchedClocks.{WatchedClocks}
 use Rattle.nbt_net.specs.Hosts.{HostLives}
-use Rattle.nbt_net.specs.Devices.{Machine, IsLived}
+use Rattle.nbt_net.specs.Devices.{Machine, NoStore, IsLived}
 
 -- A host's clock is read alone, or looked at with the time of day.
 abbrev pub TellsOrLooks : {K : Type 0} → (K → ℕ → K → Type 0) → (K → Look → K → Type 0) → K → (now : ℕ) → K → Type 0
 TellsOrLooks tells looks old now new = tells old now new ⊎ ((look : Look) × looks old look new × (look.at ≡ now))
-
--- it has no store
-abbrev pub NoStore : Unit {0} → StoreCall → Unit {0} → Type 0
-NoStore old call new = ⊥
 
 abbrev pub host_machine : {P K : Type 0} → P → K → Machine P K (Unit {0})
 host_machine port watch = record { port = port; clock = watch; store = None }

@@ -11,3 +11,5 @@ pub mod Devices
 pub mod Hosting
 pub mod Again
 pub mod Fronts
+pub mod Working
+pub mod BareWorking

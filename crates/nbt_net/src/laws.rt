@@ -1,13 +1,14 @@
 //! A network of the programs' own acts is a run of a world; and what a server is after a crash and a start, and what its clock reads: each
 //! law is the contract of a function that does nothing.
 
-ghost use Rattle.std.specs.Prelude.{◌≡◌, ℕ, ◌+◌, ◌≤◌, ◌↔◌, List, ◌++◌, Option, Some, None, IsTrue};
+ghost use Rattle.std.specs.Prelude.{◌≡◌, ℕ, ◌+◌, ◌≤◌, ◌↔◌, List, [], ◌++◌, Option, Some, None, IsTrue};
 ghost use Rattle.nbt_name.specs.declared.addr.Addr.{Addr};
 ghost use Rattle.nbt_lease.specs.Config.{ConfigValue};
 ghost use Rattle.nbt_node.specs.Node.{NodeValue};
 ghost use Rattle.nbt_front.specs.FrontPort.{Fronted, FrontDoes};
 ghost use Rattle.nbt_port.specs.PortCalls.{PortCall, Chain};
 ghost use Rattle.nbt_serve.specs.SambaPort.{HandsOn};
+ghost use Rattle.nbt_serve.specs.Turning.{Keeping};
 ghost use Rattle.nbt_server.specs.Calls.{ServerResumes};
 ghost use Rattle.nbt_server.specs.Serving.{ServerValue};
 ghost use Rattle.nbt_server.specs.Shifted.{shifted_server};
@@ -34,8 +35,11 @@ ghost use Rattle.nbt_net.specs.Servers.{ServerEnd, ServerLives};
 ghost use Rattle.nbt_net.specs.Starts.{StartResumesAnEarlierServer};
 ghost use Rattle.nbt_net.specs.Turns.{BrokenTurnsAreLived, CrashCutsALifeShort, HostTurnsAreLived, HostsLiveOn, ServerRunsAreLived, ServerTurnsAreLived};
 ghost use Rattle.nbt_net.specs.Wire.{Happening};
+ghost use Rattle.nbt_net.specs.BareWorking.{Bare, BareStarts, BareWorkIsLived, IsBareAtWork};
+ghost use Rattle.nbt_net.specs.Working.{HasWorked, PutsFront, WorkIsLived};
 
-use nbt_port::Port;
+use nbt_port::{Clock, Port};
+use nbt_store::Store;
 
 /// What a server does at one reading of its clock is a run of the world, with what its port sends: it starts, resumes, takes a turn or fails in it, or crashes.
 pub fn a_servers_act_is_a_run()
@@ -71,6 +75,17 @@ pub fn a_servers_turns_are_lived()
 pub fn a_whole_host_is_lived()
     ensures ok { HostsAreLived }
     ensures failed { FailedHostsAreLived }
+{}
+
+/// Whatever a server does with its devices, one thing after another in any order, is a life of it, call by call: turns, also those in which its port
+/// fails, readings of its clock, looks at its file, and other fronts that take the place of its own between two calls. It goes on, or its store failed
+/// at last (`kept`); its port's and its store's calls are then those of a run of a server that keeps its leases. Where no reply waits at first, one
+/// leaves no longer than a datagram's life after its request was read. Without a state (`bare`) it lives from its start on, and a reply leaves before the clock is read again.
+pub fn a_server_at_work_is_lived<P: Port, S: Store, C: Clock, D: Clock>()
+    ensures kept { (old new : Keeping (Fronted P) S C) → old.waiting.replies ≡ [] → HasWorked (FrontDoes P.does) PutsFront S.does C.tells D.tells old new
+        → WorkIsLived (FrontDoes P.does) PutsFront S.does C.tells old.server.table.config old new }
+    ensures bare { (config : ConfigValue) (boot : C) (first new : Bare (Fronted P) C) → BareStarts C.tells config boot first → IsBareAtWork (FrontDoes P.does) PutsFront C.tells first new
+        → BareWorkIsLived (FrontDoes P.does) PutsFront C.tells config boot first new }
 {}
 
 /// Cut off behind any call of its devices, such a life is one so far: of the same acts, the first of them.

@@ -1,0 +1,6 @@
+-- What several proofs share; the proof of a law is in the folder of its name.
+
+-- a server that stays up is at work with its devices, one thing after another
+mod Unfolded
+-- and so is a whole one, from its start to its end
+mod Whole

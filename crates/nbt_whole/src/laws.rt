@@ -1,0 +1,18 @@
+//! A whole name server lives in a network: the law is the contract of a function that does nothing.
+
+ghost use Rattle.nbt_whole.specs.Nbns.{NbnsAreLived, FailedNbnsAreLived, KeptAreLived, FailedKeptAreLived};
+
+/// What the contract of [`nbt_nbns::run_nbns`] says of a server without a state is a life of it, from its first call to its last: until its time is over
+/// (`bare`), or until its port fails for good (`bare_failed`). So is what `RunsKept`, which is of the contract of [`nbt_nbns::run_server`], says of a
+/// server with a state (`kept`), and what `KeptFails` says of one whose port or store fails (`kept_failed`), from the server that it begins as. All that
+/// its port, its clock and its store did stands in one order, and at each reading of the clock the acts at that time. A front that is read anew
+/// takes the place of its own between two calls. With a state a run begins with that server, and the calls of the port and the store are those of that run;
+/// a reply may leave later than at its act, but no longer than a datagram's life after its request was read.
+pub fn a_whole_server_is_lived()
+    ensures bare { NbnsAreLived }
+    ensures bare_failed { FailedNbnsAreLived }
+    ensures kept { KeptAreLived }
+    ensures kept_failed { FailedKeptAreLived }
+{
+    nbt_net::laws::a_server_lives_over_any_number_of_crashes();
+}
