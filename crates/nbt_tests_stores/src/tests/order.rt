@@ -4,7 +4,7 @@
 use super::expect::{expect, expect_eq_in};
 use super::header;
 use arrayvec::ArrayVec;
-use nbt_lease::Moment;
+use nbt_lease::{Lease, Moment};
 use nbt_name::{Addr, Name};
 use nbt_port::{Clock, Device, MemoryClock, MemoryPort, Port, Route};
 use nbt_serve::{BATCH, Share, Waiting, keep_turn, serve_turn};
@@ -47,21 +47,21 @@ impl Calls {
 
 /// A port that says when it is called.
 #[derive(Drop)]
-struct TellingPort<'a> {
-    beneath: MemoryPort,
+struct TellingPort<'a, P> {
+    beneath: P,
     calls: &'a Calls,
 }
 
-impl<'a> Model for TellingPort<'a> {
-    ghost Value = { MemoryPort };
+impl<'a, P> Model for TellingPort<'a, P> {
+    ghost Value = { P };
 
     ghost view = { λ p. p.beneath };
 }
 
-impl Port for TellingPort<'_> {
-    ghost does = { MemoryPort.does };
+impl<'a, P: Port> Port for TellingPort<'a, P> {
+    ghost does = { P.does };
 
-    ghost failures = { MemoryPort.failures };
+    ghost failures = { P.failures };
 
     fn receive(&mut self, octets: &mut ArrayVec<u8, 2048>) -> Result<Option<Route>, Device> {
         self.calls.add(RECEIVE);
@@ -80,19 +80,19 @@ impl Port for TellingPort<'_> {
 
 /// A clock that says when it is read.
 #[derive(Drop)]
-struct TellingClock<'a> {
-    beneath: MemoryClock,
+struct TellingClock<'a, C> {
+    beneath: C,
     calls: &'a Calls,
 }
 
-impl<'a> Model for TellingClock<'a> {
-    ghost Value = { MemoryClock };
+impl<'a, C> Model for TellingClock<'a, C> {
+    ghost Value = { C };
 
     ghost view = { λ c. c.beneath };
 }
 
-impl Clock for TellingClock<'_> {
-    ghost tells = { MemoryClock.tells };
+impl<'a, C: Clock> Clock for TellingClock<'a, C> {
+    ghost tells = { C.tells };
 
     fn now(&mut self) -> Moment {
         self.calls.add(READ);
@@ -146,71 +146,87 @@ const ORDERED: &[Ordered] = &[
     (&[NOTHING], &[60_000], 1, 1),
 ];
 
-/// Takes the turns of a row at these devices, with a store or without.
+/// Takes the turns of a row with a store.
 fn take_turns<R: Abort + AllocGlobal>(
     rt: &R,
     row: &Ordered,
-    port: &mut TellingPort<'_>,
-    clock: &mut TellingClock<'_>,
-    store: Option<&mut DiskStore<TellingDisk<'_>>>,
+    port: &mut TellingPort<'_, MemoryPort>,
+    clock: &mut TellingClock<'_, MemoryClock>,
+    store: &mut DiskStore<TellingDisk<'_>>,
     server: &mut Server,
 ) {
     let mut waiting = Waiting::new(rt.alloc(), 60_000).expect(rt, "waiting");
     let mut share = Share::new(rt.alloc(), 0);
-    let (mut octets, mut reply) = (ArrayVec::new(), ArrayVec::new());
-    let mut store = store;
+    let mut octets = ArrayVec::new();
     for _ in row.0 {
         expect(rt, port.failures() < 1 << 62);
         expect(rt, waiting.len() < BATCH);
-        let is_well = match &mut store {
-            Some(store) => keep_turn(
-                port,
-                clock,
-                *store,
-                server,
-                &mut share,
-                &mut waiting,
-                &mut octets,
-                &mut reply,
-                &mut None,
-            )
-            .is_ok(),
-            None => serve_turn(port, clock, server, &mut octets, &mut reply).is_ok(),
-        };
-        expect(rt, is_well);
+        let turn = keep_turn(
+            port,
+            clock,
+            store,
+            server,
+            &mut share,
+            &mut waiting,
+            &mut octets,
+            &mut ArrayVec::new(),
+            &mut None,
+        );
+        expect(rt, turn.is_ok());
     }
 }
 
-/// The calls of a server's turns, with a store or without.
-fn calls_of<R: Abort + AllocGlobal>(rt: &R, row: &Ordered, is_kept: bool) -> u64 {
-    let calls = Calls(Cell::new(0));
-    let none: [(Name, nbt_lease::Lease); 0] = [];
+/// Takes the turns of a row without a store.
+fn take_bare_turns<R: Abort>(
+    rt: &R,
+    row: &Ordered,
+    port: &mut TellingPort<'_, MemoryPort>,
+    clock: &mut TellingClock<'_, MemoryClock>,
+    server: &mut Server,
+) {
+    let mut octets = ArrayVec::new();
+    let mut reply = ArrayVec::new();
+    for _ in row.0 {
+        expect(rt, port.failures() < 1 << 62);
+        let turn = serve_turn(port, clock, server, &mut octets, &mut reply);
+        expect(rt, turn.is_ok());
+    }
+}
+
+/// Takes the turns of a row, with a store or without, at devices that tell of their calls.
+fn take<R: Abort + AllocGlobal>(rt: &R, row: &Ordered, calls: &Calls, is_kept: bool) {
+    let none: [(Name, Lease); 0] = [];
     let disk = TellingDisk {
         beneath: MemoryDisk::new(rt.alloc(), None),
-        calls: &calls,
+        calls,
     };
     let mut store = DiskStore::open(disk, rt.alloc(), &header(rt, 60_000), &none).expect(
         rt, "open",
     );
-    calls.0.set(0);
     let mut port = TellingPort {
         beneath: port(rt, row.0).expect(rt, "a port"),
-        calls: &calls,
+        calls,
     };
     let mut clock = TellingClock {
         beneath: clock(rt, row.1).expect(rt, "a clock"),
-        calls: &calls,
+        calls,
     };
     let mut server = started(rt, 4096, 0).expect(rt, "a server");
-    let store = if is_kept { Some(&mut store) } else { None };
-    take_turns(rt, row, &mut port, &mut clock, store, &mut server);
-    calls.0.get()
+    calls.0.set(0);
+    if is_kept {
+        take_turns(rt, row, &mut port, &mut clock, &mut store, &mut server);
+    } else {
+        take_bare_turns(rt, row, &mut port, &mut clock, &mut server);
+    }
 }
 
 #[test]
 fn a_clock_is_read_behind_the_receive(rt: HostRuntime) {
+    let calls = Calls(Cell::new(0));
     for row in ORDERED {
-        expect_eq_in(&rt, &row.0.len(), &calls_of(&rt, row, true), &row.2);
-        expect_eq_in(&rt, &row.0.len(), &calls_of(&rt, row, false), &row.3);
+        take(&rt, row, &calls, true);
+        expect_eq_in(&rt, &row.0.len(), &calls.0.get(), &row.2);
+        take(&rt, row, &calls, false);
+        expect_eq_in(&rt, &row.0.len(), &calls.0.get(), &row.3);
     }
 }
