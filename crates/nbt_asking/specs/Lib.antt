@@ -1,0 +1,3 @@
+pub mod Inner
+pub mod Asking
+pub mod Port

@@ -1,0 +1,118 @@
+//! A datagram that is kept from the server.
+
+ghost use Rattle.std.specs.Prelude.{◌≡◌, ◌∷◌, ◌++◌};
+
+use arrayvec::ArrayVec;
+use nbt_confirm::{Came, NAME_PORT};
+use nbt_name::Addr;
+use nbt_packet::{Message, read};
+use std::marker::Model;
+
+/// OPCODE of a multi-homed registration (our profile: RFC 1002 section 4.2.1.1 doesn't list it).
+const MULTI_HOMED: u16 = 15;
+
+/// What became of a datagram that was set aside.
+#[derive(Clone, Copy, Debug, PartialEq, Eq)]
+enum Place {
+    /// There is none.
+    Nowhere,
+    /// It waits to be looked at.
+    Aside,
+    /// It comes to the server next.
+    Back,
+}
+
+/// A datagram that was set aside, if there is one. It is looked at between two turns, and may come to the server after that.
+#[derive(Drop)]
+pub struct Aside {
+    place: Place,
+    came: Came,
+    octets: ArrayVec<u8, 2048>,
+}
+
+impl Model for Aside {
+    ghost use Rattle.nbt_asking.specs.Asking.{Kept};
+    ghost use Rattle.nbt_asking.specs.Inner.Placing.{kept_of};
+
+    ghost Value = { Kept };
+
+    ghost view = { λ a. kept_of a.place a.came a.octets.items };
+}
+
+impl Aside {
+    /// None yet.
+    pub fn new() -> Aside {
+        Aside {
+            place: Place::Nowhere,
+            came: Came {
+                from: Addr { ip: 0, port: 0 },
+                local: None,
+                flags: 0,
+            },
+            octets: ArrayVec::new(),
+        }
+    }
+
+    /// Whether one waits to be looked at.
+    pub fn is_there(&self) -> bool {
+        self.place == Place::Aside
+    }
+
+    /// How it came.
+    pub fn came(&self) -> Came {
+        self.came
+    }
+
+    /// Its octets.
+    pub fn octets(&self) -> &[u8] {
+        self.octets.as_slice()
+    }
+
+    /// Sets these octets aside, which came so.
+    pub fn put(&mut self, came: Came, octets: &[u8]) {
+        self.place = Place::Aside;
+        self.came = came;
+        self.octets.clear();
+        let _ = self.octets.try_extend_from_slice(octets);
+    }
+
+    /// It is looked at, and comes to nobody.
+    pub fn drop(&mut self) {
+        self.place = Place::Nowhere;
+    }
+
+    /// It is looked at, and comes to the server next.
+    pub fn come_back(&mut self) {
+        self.place = Place::Back;
+    }
+
+    /// Leaves in `octets` what is to come to the server, and returns how it came; `None`, with `octets` as they were, if there is none.
+    pub fn take_back(&mut self, octets: &mut ArrayVec<u8, 2048>) -> Option<Came> {
+        if self.place != Place::Back {
+            return None;
+        }
+        self.place = Place::Nowhere;
+        octets.clear();
+        let _ = octets.try_extend_from_slice(self.octets.as_slice());
+        Some(self.came)
+    }
+}
+
+/// Whether a datagram with these flags is set aside: a response to a query, from the port of the name service, where an inquiry is
+/// under way; and what came as a request of OPCODE 15, and spells a registration now.
+pub(crate) fn is_aside(came: Came, octets: &[u8], is_asking: bool) -> bool {
+    if came.flags >= 0x8000 {
+        return is_asking && came.from.port == NAME_PORT && opcode_of(came.flags) == 0;
+    }
+    opcode_of(came.flags) == MULTI_HOMED && is_registration(octets)
+}
+
+/// OPCODE of the flags (RFC 1002 section 4.2.1.1).
+fn opcode_of(flags: u16) -> u16 {
+    flags / 0x800 % 16
+}
+
+/// Whether octets spell a registration.
+fn is_registration(octets: &[u8]) -> bool {
+    matches!(read(octets), Some(Message::Registration(_)))
+}

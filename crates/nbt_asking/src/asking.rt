@@ -1,0 +1,478 @@
+//! What a server has that asks machines for their addresses, beside its leases.
+
+ghost use Rattle.std.specs.Prelude.{◌≡◌, ◌≤◌};
+
+use crate::replies::{ACTIVE, REFUSED, SERVER_ERROR, route_of, write_claim, write_reply};
+use crate::tally::{AskTally, Asked, Note};
+use arrayvec::ArrayVec;
+use nbt_confirm::{
+    Awaits, Came, Further, FurtherAddresses, Machine, NAME_PORT, Outcome, Put, Request, Served, Taken,
+    WAITS_MOST, Waits, wait_seconds, write_wait,
+};
+use nbt_lease::{Lease, Moment, Table};
+use nbt_name::{Addr, Kind, Name};
+use nbt_port::Route;
+use std::alloc::{AllocError, Global};
+use std::collections::VecDeque;
+use std::marker::Model;
+
+/// How many notes wait for the log at most (our profile): those past them are lost, and counted all the same.
+const NOTES_MOST: usize = 64;
+
+/// The flags of a request that nobody sent (our profile): no registration has them, and no reply to it leaves.
+pub(crate) const UNASKED: u16 = 0;
+
+/// The milliseconds of a second.
+const SECOND: u64 = 1_000;
+
+/// Where a reply goes that was written.
+#[derive(Clone, Copy, Debug, PartialEq, Eq)]
+pub struct Leaving {
+    /// By the route of its request.
+    pub to: Route,
+    /// Also by this one: to the holder's address of the same machine, where the request's own address has never answered, and may get
+    /// nothing.
+    pub also: Option<Route>,
+}
+
+/// The requests that wait, the further addresses that were confirmed, and the requests that the server may grant now. Their memory is taken
+/// at the start.
+#[derive(Drop)]
+pub struct Asking {
+    waits: Waits,
+    further: FurtherAddresses,
+    granted: VecDeque<Request>,
+    rows_per_client: u32,
+    tally: AskTally,
+    notes: VecDeque<Note>,
+}
+
+impl Model for Asking {
+    ghost use Rattle.nbt_asking.specs.Asking.{AskingValue};
+
+    ghost Value = { AskingValue };
+
+    ghost view = { λ a. record { waits = a.waits; further = a.further; granted = a.granted.items; rows_per_client = a.rows_per_client } };
+}
+
+impl Asking {
+    /// Nothing waits, and nothing is confirmed. A client has so many rows at most, leases and further addresses together.
+    pub fn new(alloc: Global, rows_per_client: u32) -> Result<Asking, AllocError> {
+        Ok(Asking {
+            waits: Waits::new(alloc)?,
+            further: FurtherAddresses::new(alloc)?,
+            granted: VecDeque::with_capacity(alloc, WAITS_MOST)?,
+            rows_per_client,
+            tally: AskTally::NONE,
+            notes: VecDeque::with_capacity(alloc, NOTES_MOST)?,
+        })
+    }
+
+    /// The requests that wait, and the inquiries under way.
+    pub fn waits(&self) -> &Waits {
+        &self.waits
+    }
+
+    /// The same, to be begun, repeated and heard.
+    pub(crate) fn waits_mut(&mut self) -> &mut Waits {
+        &mut self.waits
+    }
+
+    /// The further addresses.
+    pub fn further(&self) -> &FurtherAddresses {
+        &self.further
+    }
+
+    /// How many requests came to what.
+    pub fn tally(&self) -> AskTally {
+        self.tally
+    }
+
+    /// The first note that the log doesn't have yet.
+    pub fn take_note(&mut self) -> Option<Note> {
+        self.notes.pop_front()
+    }
+
+    /// Whether an inquiry is under way.
+    pub(crate) fn is_asking(&self) -> bool {
+        !self.waits.pending().is_empty()
+    }
+
+    /// Whether there is nothing to do but for what comes.
+    pub(crate) fn is_idle(&self) -> bool {
+        self.waits.requests().is_empty()
+            && self.waits.pending().is_empty()
+            && self.further.rows().is_empty()
+    }
+
+    /// Whether a request waits for an answer of which no inquiry may be under way: an id is drawn only then.
+    pub(crate) fn wants_id(&self) -> bool {
+        self.waits.requests().iter().any(|r| r.awaits.is_asking())
+    }
+
+    /// An inquiry more began.
+    pub(crate) fn count_inquiry(&mut self) {
+        self.tally.inquiries = self.tally.inquiries.saturating_add(1);
+    }
+
+    /// The first request that the server may grant, as it comes to it: leaves its registration in `octets`, and returns how it came; `None`
+    /// if there is none.
+    pub(crate) fn take_granted(&mut self, octets: &mut ArrayVec<u8, 2048>) -> Option<Came> {
+        let request = self.granted.pop_front()?;
+        let mut text = ArrayVec::new();
+        write_claim(&request, &mut text);
+        octets.clear();
+        let _ = octets.try_extend_from_slice(text.as_slice());
+        Some(Came {
+            from: request.from,
+            local: request.local,
+            flags: request.flags,
+        })
+    }
+
+    /// A request that the server refused since the lease of another address stands in its way, `request.asked`. Where its address is a further
+    /// one of that machine it is renewed, and the reply is in `out`. Else it waits for what that machine says.
+    pub(crate) fn hold(
+        &mut self,
+        table: &Table,
+        now: Moment,
+        request: Request,
+        out: &mut ArrayVec<u8, 576>,
+    ) -> Option<Leaving> {
+        let holder = request.asked;
+        if !self.further.has(now, &request.name, holder, request.addr) {
+            self.wait(request);
+            return None;
+        }
+        let lease_end = end_of(table, now, &request.name, holder)?;
+        let until = until_of(table, now, request.ttl);
+        self.further
+            .renew(&request.name, holder, request.addr, until, lease_end);
+        Some(self.accept(now, request, until.min(lease_end), out))
+    }
+
+    /// Does with a request that was served what is to be done. The reply is in `out` then, if there is one.
+    pub(crate) fn settle(
+        &mut self,
+        table: &Table,
+        now: Moment,
+        served: Served,
+        machine: Option<&Machine>,
+        out: &mut ArrayVec<u8, 576>,
+    ) -> Option<Leaving> {
+        let mut request = served.request;
+        match served.outcome {
+            Outcome::Further => self.confirm(table, now, request, machine?, out),
+            Outcome::Refuse => Some(self.answer(request, Asked::Refused, ACTIVE, out)),
+            Outcome::AskRequester => {
+                request.awaits = Awaits::Requester;
+                request.asked = request.from.ip;
+                self.wait(request);
+                None
+            }
+            Outcome::AwaitLeaseEnd => self.tell_to_wait(table, now, request, out),
+            Outcome::Grant => {
+                self.grant(request);
+                None
+            }
+            Outcome::GrantSource => {
+                request.addr = request.from.ip;
+                self.grant(request);
+                None
+            }
+            Outcome::NotOwn => Some(self.answer(request, Asked::NotOwn, REFUSED, out)),
+            Outcome::Reached => {
+                self.further.reach(&request.name, request.addr);
+                self.note(Asked::Reached, &request, 0);
+                None
+            }
+            Outcome::Nothing => {
+                self.note(Asked::Unanswered, &request, 0);
+                None
+            }
+        }
+    }
+
+    /// The request's address is a further one of the machine: it is put among them, and the reply is positive; or SRV_ERR where there is no
+    /// room. Where the holder has its lease no more, or it is the holder's address itself, the server has the request.
+    fn confirm(
+        &mut self,
+        table: &Table,
+        now: Moment,
+        request: Request,
+        machine: &Machine,
+        out: &mut ArrayVec<u8, 576>,
+    ) -> Option<Leaving> {
+        let confirmed = machine.further(request.addr);
+        let lease_end = end_of(table, now, machine.name(), machine.asked());
+        let (Some(confirmed), Some(lease_end)) = (confirmed, lease_end) else {
+            self.grant(request);
+            return None;
+        };
+        if self.is_full(table, now, request.addr) {
+            return Some(self.answer(request, Asked::Full, SERVER_ERROR, out));
+        }
+        let until = until_of(table, now, request.ttl);
+        match self.further.put(now, &confirmed, until, lease_end) {
+            Put::Begun | Put::Renewed => {
+                Some(self.accept(now, request, until.min(lease_end), out))
+            }
+            Put::NameFull | Put::Full => {
+                Some(self.answer(request, Asked::Full, SERVER_ERROR, out))
+            }
+        }
+    }
+
+    /// The positive reply to a request of a further address, which lasts until then. One that has never answered is asked itself, and the
+    /// reply goes to the holder's address too.
+    fn accept(
+        &mut self,
+        now: Moment,
+        request: Request,
+        until: u64,
+        out: &mut ArrayVec<u8, 576>,
+    ) -> Leaving {
+        let seconds = seconds_until(now, until);
+        write_reply(&request, 0, seconds, out);
+        self.note(Asked::Confirmed, &request, seconds);
+        let to = route_of(&request);
+        if self.further.is_reached(&request.name, request.addr) {
+            return Leaving { to, also: None };
+        }
+        let also = Route {
+            peer: Addr {
+                ip: request.asked,
+                port: NAME_PORT,
+            },
+            local: request.local,
+        };
+        let mut request = request;
+        request.awaits = Awaits::Reach;
+        request.asked = request.addr;
+        self.wait(request);
+        Leaving {
+            to,
+            also: Some(also),
+        }
+    }
+
+    /// A negative reply.
+    fn answer(
+        &mut self,
+        request: Request,
+        asked: Asked,
+        rcode: u8,
+        out: &mut ArrayVec<u8, 576>,
+    ) -> Leaving
+        requires { rcode ≤ 15 }
+    {
+        write_reply(&request, rcode, 0, out);
+        self.note(asked, &request, 0);
+        Leaving {
+            to: route_of(&request),
+            also: None,
+        }
+    }
+
+    /// A request to wait for the end of the lease that stands in the way, and five seconds. Where it is over, the server has the request.
+    fn tell_to_wait(
+        &mut self,
+        table: &Table,
+        now: Moment,
+        request: Request,
+        out: &mut ArrayVec<u8, 576>,
+    ) -> Option<Leaving> {
+        let Some(end) = table.least_end(now, &request.name) else {
+            self.grant(request);
+            return None;
+        };
+        let seconds = wait_seconds(now, end);
+        write_wait(&request, seconds, out);
+        self.note(Asked::Told, &request, seconds);
+        let to = route_of(&request);
+        let mut request = request;
+        request.awaits = Awaits::LeaseEnd(end);
+        self.waits.take(request);
+        Some(Leaving { to, also: None })
+    }
+
+    /// The server has the request next, as if it had come now. It is lost where so many wait for that as requests may wait.
+    fn grant(&mut self, request: Request) {
+        if self.granted.len() >= WAITS_MOST {
+            self.note(Asked::Lost, &request, 0);
+            return;
+        }
+        self.note(Asked::Granted, &request, 0);
+        self.granted.push_back_reserved(request);
+    }
+
+    /// The request waits, unless too many do, or the same one does.
+    pub(crate) fn wait(&mut self, request: Request) {
+        let name = request.name.copy();
+        let note = note_of(Asked::Waits, name, &request, 0);
+        match self.waits.take(request) {
+            Taken::Waits => self.keep_note(note),
+            Taken::Resent => {}
+            Taken::ClientFull | Taken::Full => self.keep_note(Note {
+                asked: Asked::Lost,
+                ..note
+            }),
+        }
+    }
+
+    /// The first request that waited for a lease's end that is there: it is asked again itself, or the one is that has the lease by now.
+    /// Returns whether there was one.
+    pub(crate) fn wake(&mut self, table: &Table, now: Moment) -> bool {
+        let Some(mut request) = self.waits.wake(now) else {
+            return false;
+        };
+        match table.members(now, &request.name).next() {
+            Some(lease) => {
+                request.awaits = Awaits::Holder;
+                request.asked = lease.addr;
+            }
+            None => {
+                request.awaits = Awaits::AfterLease;
+                request.asked = request.from.ip;
+            }
+        }
+        self.wait(request);
+        true
+    }
+
+    /// The holder released a name: the next of its machine's addresses is granted it, by the server's rules.
+    pub(crate) fn pass_on(&mut self, now: Moment, name: &Name, holder: u32) {
+        let Some(left) = left_of_next(self.further.rows(), now, name, holder) else {
+            self.further.end_all(name);
+            return;
+        };
+        let Some(addr) = self.further.take_next(now, name, holder) else {
+            return;
+        };
+        self.grant(Request {
+            from: Addr {
+                ip: addr,
+                port: NAME_PORT,
+            },
+            local: None,
+            id: 0,
+            flags: UNASKED,
+            name: name.copy(),
+            kind: Kind::Unique,
+            addr,
+            ttl: left,
+            awaits: Awaits::Sender,
+            asked: addr,
+        });
+    }
+
+    /// The first further address that isn't listed any longer, though its own refreshes last: it is listed as long as the holder's lease, where
+    /// that was renewed; where it is over, the next address is granted the name; where another has it, all of them end. Returns whether there
+    /// was one.
+    pub(crate) fn follow_lease(&mut self, table: &Table, now: Moment) -> bool {
+        let Some(row) = first_over(self.further.rows(), now) else {
+            return false;
+        };
+        let (name, holder, addr, until) =
+            (row.name.copy(), row.holder, row.addr, row.renewed_until);
+        match table.members(now, &name).next() {
+            Some(lease) if is_of(&lease, holder) => {
+                self.further.renew(&name, holder, addr, until, lease.end)
+            }
+            Some(_) => self.further.end_all(&name),
+            None => self.pass_on(now, &name, holder),
+        }
+        true
+    }
+
+    /// Ends a further address, for its own release. Returns whether it was one.
+    pub(crate) fn release(&mut self, name: &Name, addr: u32) -> bool {
+        let is_there = self
+            .further
+            .rows()
+            .iter()
+            .any(|row| row.name == *name && row.addr == addr);
+        if is_there {
+            self.further.end(name, addr);
+        }
+        is_there
+    }
+
+    /// Whether a client has as many rows as it may have.
+    fn is_full(&self, table: &Table, now: Moment, client: u32) -> bool {
+        let own = self.further.count_of(now, client) as u32;
+        table.has_at_least(now, client, self.rows_per_client.saturating_sub(own))
+    }
+
+    /// What came of a request is counted, and noted.
+    fn note(&mut self, asked: Asked, request: &Request, seconds: u32) {
+        let note = note_of(asked, request.name.copy(), request, seconds);
+        self.keep_note(note);
+    }
+
+    fn keep_note(&mut self, note: Note) {
+        self.tally.count(note.asked);
+        if self.notes.len() < NOTES_MOST {
+            self.notes.push_back_reserved(note);
+        }
+    }
+}
+
+fn note_of(asked: Asked, name: Name, request: &Request, seconds: u32) -> Note {
+    Note {
+        asked,
+        name,
+        kind: request.kind,
+        addr: request.addr,
+        of: request.asked,
+        seconds,
+    }
+}
+
+/// Whether a lease is a unique name's, of this address.
+fn is_of(lease: &Lease, holder: u32) -> bool {
+    lease.kind == Kind::Unique && lease.addr == holder
+}
+
+/// The expiry of this address's lease of a unique name; none if it has none.
+fn end_of(table: &Table, now: Moment, name: &Name, holder: u32) -> Option<u64>
+    requires { table.now.last ≤ now }
+{
+    let lease = table.members(now, name).next()?;
+    if is_of(&lease, holder) {
+        Some(lease.end)
+    } else {
+        None
+    }
+}
+
+/// Until when a request for so many seconds lasts, in milliseconds.
+fn until_of(table: &Table, now: Moment, ttl: u32) -> u64 {
+    now.get() + SECOND * u64::from(table.config().granted(ttl))
+}
+
+/// The seconds until then, rounded up.
+fn seconds_until(now: Moment, until: u64) -> u32 {
+    until.saturating_sub(now.get()).div_ceil(SECOND) as u32
+}
+
+/// The first row that isn't listed any longer, though its own refreshes last.
+fn first_over(rows: &[Further], now: Moment) -> Option<&Further> {
+    let now = now.get();
+    rows.iter()
+        .find(|row| row.end <= now && now < row.renewed_until)
+}
+
+/// For how many seconds the address still lasts that takes a lease over.
+fn left_of_next(rows: &[Further], now: Moment, name: &Name, holder: u32) -> Option<u32> {
+    for row in rows {
+        if row.reached
+            && row.name == *name
+            && row.holder == holder
+            && now.get() < row.renewed_until
+        {
+            return Some(seconds_until(now, row.renewed_until));
+        }
+    }
+    None
+}

@@ -1,0 +1,427 @@
+//! The port of a server that asks, and what is done between two of its turns.
+
+ghost use Rattle.std.specs.Prelude.{◌≡◌, Ok};
+ghost use Rattle.nbt_port.specs.PortCalls.{receiving, sending, CountsFailure};
+
+use crate::aside::{Aside, is_aside};
+use crate::asking::{Asking, Leaving, UNASKED};
+use crate::flags::TellsFlags;
+use crate::ids::Ids;
+use crate::listing::{
+    ReplyKind, is_of_unique, kind_of, release_in, write_listed, write_released,
+};
+use crate::replies::{ACTIVE, write_reply};
+use arrayvec::ArrayVec;
+use nbt_confirm::{
+    Awaits, Came, Machine, NAME_PORT, WAITS_MOST, Way, asks_first, held_back, request_of,
+};
+use nbt_lease::{Moment, Table};
+use nbt_log::Entry;
+use nbt_name::{Addr, Kind};
+use nbt_packet::{Message, Registration, read};
+use nbt_port::{Cause, Clock, Device, OwnReplies, Port, Route};
+use nbt_server::{Claim, Outcome, Refusal, Server};
+use std::io::Write;
+use std::marker::Model;
+
+/// How many queries leave between two turns at most (our profile).
+const QUERIES_MOST: usize = 16;
+
+/// The port of a server that asks, over another one. Between two turns it has to be called by [`AskingPort::attend`].
+#[derive(Drop)]
+pub struct AskingPort<P, C, I> {
+    beneath: P,
+    clock: C,
+    ids: I,
+    asking: Asking,
+    aside: Aside,
+    came: Came,
+    quiet: Option<Addr>,
+    out: ArrayVec<u8, 576>,
+}
+
+impl<P, C, I> Model for AskingPort<P, C, I> {
+    ghost use Rattle.nbt_asking.specs.Port.{AskingPortValue};
+
+    ghost Value = { AskingPortValue P };
+
+    ghost view = { λ p. record { port = p.beneath; asking = p.asking; kept = p.aside; last = p.came; quiet = p.quiet } };
+}
+
+impl<P, C, I> AskingPort<P, C, I> {
+    /// A port over this one, with a clock that tells the times of the server's, and a source of ids.
+    pub fn new(beneath: P, clock: C, ids: I, asking: Asking) -> AskingPort<P, C, I> {
+        AskingPort {
+            beneath,
+            clock,
+            ids,
+            asking,
+            aside: Aside::new(),
+            came: Came {
+                from: Addr { ip: 0, port: 0 },
+                local: None,
+                flags: 0,
+            },
+            quiet: None,
+            out: ArrayVec::new(),
+        }
+    }
+
+    /// The port beneath.
+    pub fn beneath(&self) -> &P {
+        &self.beneath
+    }
+
+    /// The same, to be changed.
+    pub fn beneath_mut(&mut self) -> &mut P {
+        &mut self.beneath
+    }
+
+    /// What waits, and the further addresses.
+    pub fn asking(&self) -> &Asking {
+        &self.asking
+    }
+
+    /// The same, to take its notes.
+    pub fn asking_mut(&mut self) -> &mut Asking {
+        &mut self.asking
+    }
+
+    /// What comes to the server without being received: a request that was set aside, or one that it may grant.
+    fn take_back(&mut self, octets: &mut ArrayVec<u8, 2048>) -> Option<Route> {
+        let came = match self.aside.take_back(octets) {
+            Some(came) => came,
+            None => self.asking.take_granted(octets)?,
+        };
+        if came.flags == UNASKED {
+            self.quiet = Some(came.from);
+        }
+        self.came = came;
+        Some(Route {
+            peer: came.from,
+            local: came.local,
+        })
+    }
+}
+
+impl<P: Port + TellsFlags, C: Clock, I: Ids> AskingPort<P, C, I> {
+    /// Sets aside what was received, where that is to be looked at first, or hands it on.
+    fn pass(
+        &mut self,
+        from: Option<Route>,
+        octets: &mut ArrayVec<u8, 2048>,
+    ) -> Option<Route> {
+        let route = from?;
+        let came = Came {
+            from: route.peer,
+            local: route.local,
+            flags: self.beneath.flags(),
+        };
+        if is_aside(came, octets.as_slice(), self.asking.is_asking()) {
+            self.aside.put(came, octets.as_slice());
+            octets.clear();
+            return None;
+        }
+        self.came = came;
+        Some(route)
+    }
+
+    /// What is done between two turns, after one in which the server did this with these octets; `entry` is `None` where no datagram came to
+    /// it. What was set aside is looked at, a refusal is held back whose request waits, and each query and reply leaves that is due. The
+    /// server stays as it is. Where the request waits, `entry` is `None` afterwards, since nothing was refused yet. A send that fails is
+    /// a datagram that was lost.
+    pub fn attend(&mut self, server: &Server, octets: &[u8], entry: &mut Option<Entry>) {
+        if !self.aside.is_there() && self.asking.is_idle() && !is_refused(entry) {
+            return;
+        }
+        let now = later(self.clock.now(), server.last());
+        let table = server.table();
+        self.look_aside(table, now);
+        self.look_at_turn(table, now, octets, entry);
+        self.give_up(table, now);
+        for _ in 0..QUERIES_MOST {
+            if !self.asking.wake(table, now) {
+                break;
+            }
+        }
+        for _ in 0..QUERIES_MOST {
+            if !self.asking.follow_lease(table, now) {
+                break;
+            }
+        }
+        self.ask(now);
+    }
+
+    /// Looks at what was set aside.
+    fn look_aside(&mut self, table: &Table, now: Moment) {
+        if !self.aside.is_there() {
+            return;
+        }
+        let came = self.aside.came();
+        if came.flags >= 0x8000 {
+            let machine = self
+                .asking
+                .waits_mut()
+                .hear(came.from, self.aside.octets());
+            self.aside.drop();
+            if let Some(machine) = machine {
+                self.serve(table, now, &machine);
+            }
+            return;
+        }
+        let Some(claim) = registration_in(self.aside.octets()) else {
+            self.aside.come_back();
+            return;
+        };
+        match asks_first(table, now, came.from, &claim) {
+            Some(awaits) => {
+                let request = request_of(came, &claim, awaits, came.from.ip);
+                self.asking.wait(request);
+                self.aside.drop();
+            }
+            None => self.aside.come_back(),
+        }
+    }
+
+    /// Serves the requests that waited for what a machine said.
+    fn serve(&mut self, table: &Table, now: Moment, machine: &Machine) {
+        for _ in 0..WAITS_MOST {
+            let Some(served) = self.asking.waits_mut().serve(machine) else {
+                return;
+            };
+            let leaving = self
+                .asking
+                .settle(table, now, served, Some(machine), &mut self.out);
+            self.leave(leaving);
+        }
+    }
+
+    /// Serves the requests that waited for one who didn't answer.
+    fn give_up(&mut self, table: &Table, now: Moment) {
+        for _ in 0..QUERIES_MOST {
+            let Some(silence) = self.asking.waits_mut().give_up(now) else {
+                return;
+            };
+            for _ in 0..WAITS_MOST {
+                let Some(served) = self.asking.waits_mut().serve_silence(&silence) else {
+                    break;
+                };
+                let leaving = self
+                    .asking
+                    .settle(table, now, served, None, &mut self.out);
+                self.leave(leaving);
+            }
+        }
+    }
+
+    /// Looks at what the server did in its turn.
+    fn look_at_turn(
+        &mut self,
+        table: &Table,
+        now: Moment,
+        octets: &[u8],
+        entry: &mut Option<Entry>,
+    ) {
+        let Some(done) = entry else {
+            return;
+        };
+        match &done.outcome {
+            Outcome::Released(claim) => {
+                if let Kind::Unique = claim.kind {
+                    self.asking.pass_on(now, &claim.name, claim.addr);
+                }
+            }
+            Outcome::Refused(_, Refusal::Active(_)) => {
+                let mut came = self.came;
+                came.from = done.from;
+                match held_back(table, now, came, octets, &done.outcome) {
+                    Some(request) => {
+                        let leaving = self.asking.hold(table, now, request, &mut self.out);
+                        self.leave(leaving);
+                        *entry = None;
+                    }
+                    None => self.refuse(came, octets),
+                }
+            }
+            _ => {}
+        }
+    }
+
+    /// Sends the refusal of a unique name that a group has, which was held back.
+    fn refuse(&mut self, came: Came, octets: &[u8]) {
+        let Some(claim) = claim_in(octets) else {
+            return;
+        };
+        if claim.kind == Kind::Group {
+            return;
+        }
+        let request = request_of(came, &claim, Awaits::Holder, 0);
+        write_reply(&request, ACTIVE, 0, &mut self.out);
+        let to = Route {
+            peer: came.from,
+            local: came.local,
+        };
+        self.leave(Some(Leaving { to, also: None }));
+    }
+
+    /// Sends what is due.
+    fn ask(&mut self, now: Moment) {
+        for _ in 0..QUERIES_MOST {
+            let Some(way) = self.asking.waits_mut().repeat(now, &mut self.out) else {
+                break;
+            };
+            self.send_query(way);
+        }
+        for _ in 0..QUERIES_MOST {
+            if !self.asking.wants_id() {
+                return;
+            }
+            let Some(id) = self.ids.draw() else {
+                return;
+            };
+            let Some(way) = self.asking.waits_mut().begin(now, id, &mut self.out) else {
+                return;
+            };
+            self.asking.count_inquiry();
+            self.send_query(way);
+        }
+    }
+
+    /// Sends the query that is in `out`.
+    fn send_query(&mut self, way: Way) {
+        let to = Route {
+            peer: Addr {
+                ip: way.asked,
+                port: NAME_PORT,
+            },
+            local: way.local,
+        };
+        let _ = self.beneath.send(to, self.out.as_slice());
+    }
+
+    /// Sends the reply that is in `out`, if there is one.
+    fn leave(&mut self, leaving: Option<Leaving>) {
+        let Some(leaving) = leaving else {
+            return;
+        };
+        let _ = self.beneath.send(leaving.to, self.out.as_slice());
+        if let Some(also) = leaving.also {
+            let _ = self.beneath.send(also, self.out.as_slice());
+        }
+    }
+
+    /// Sends a reply of the server's: held back, with the further addresses, or as it is.
+    fn send_reply(&mut self, to: Route, octets: &[u8]) -> Result<(), Device> {
+        match kind_of(octets) {
+            ReplyKind::Refusal if is_of_unique(octets) => Ok(()),
+            ReplyKind::ReleaseRefusal if self.is_released(to, octets) => {
+                self.beneath.send(to, self.out.as_slice())
+            }
+            ReplyKind::Found if self.is_listed(octets) => {
+                self.beneath.send(to, self.out.as_slice())
+            }
+            _ => self.beneath.send(to, octets),
+        }
+    }
+
+    /// Whether the refused release was a further address's, which has ended then. The positive reply is in `out`.
+    fn is_released(&mut self, to: Route, octets: &[u8]) -> bool {
+        let Some((name, addr)) = release_in(octets) else {
+            return false;
+        };
+        to.peer.ip == addr
+            && self.asking.release(&name, addr)
+            && write_released(octets, &mut self.out)
+    }
+
+    /// Whether there are further addresses of the machine that a reply is about. The reply with them is in `out`.
+    fn is_listed(&mut self, octets: &[u8]) -> bool {
+        if self.asking.further().rows().is_empty() {
+            return false;
+        }
+        let now = self.clock.now();
+        write_listed(self.asking.further(), now, octets, &mut self.out)
+    }
+}
+
+impl<P: Port + TellsFlags, C: Clock, I: Ids> Port for AskingPort<P, C, I> {
+    ghost use Rattle.nbt_asking.specs.Port.{AskingDoes};
+
+    ghost does = { AskingDoes P.does };
+
+    ghost failures = { λ p. P.failures p.port };
+
+    fn receive(&mut self, octets: &mut ArrayVec<u8, 2048>) -> Result<Option<Route>, Device> {
+        if let Some(route) = self.take_back(octets) {
+            return Ok(Some(route));
+        }
+        let from = self.beneath.receive(octets)?;
+        Ok(self.pass(from, octets))
+    }
+
+    fn receive_now(&mut self, octets: &mut ArrayVec<u8, 2048>) -> Result<Option<Route>, Device> {
+        if let Some(route) = self.take_back(octets) {
+            return Ok(Some(route));
+        }
+        let from = self.beneath.receive_now(octets)?;
+        Ok(self.pass(from, octets))
+    }
+
+    fn send(&mut self, to: Route, octets: &[u8]) -> Result<(), Device> {
+        if self.quiet == Some(to.peer) {
+            self.quiet = None;
+            return Ok(());
+        }
+        self.send_reply(to, octets)
+    }
+
+    fn failures(&self) -> u64 {
+        self.beneath.failures()
+    }
+
+    fn cause(&self) -> Option<Cause> {
+        self.beneath.cause()
+    }
+
+    fn lost(&self) -> Option<Cause> {
+        self.beneath.lost()
+    }
+
+    fn own_replies(&self) -> OwnReplies {
+        self.beneath.own_replies()
+    }
+
+    fn tell_changes<E: Write>(&self, errors: &mut E) {
+        self.beneath.tell_changes(errors)
+    }
+}
+
+/// Whether the server refused something, or ended a lease: there is something to do then.
+fn is_refused(entry: &Option<Entry>) -> bool {
+    match entry {
+        Some(entry) => matches!(&entry.outcome, Outcome::Refused(_, Refusal::Active(_))),
+        None => false,
+    }
+}
+
+/// The later of two times.
+fn later(one: Moment, other: Moment) -> Moment {
+    if one.get() < other.get() { other } else { one }
+}
+
+/// The registration that the octets spell, if they spell one.
+fn registration_in(octets: &[u8]) -> Option<Registration<'_>> {
+    match read(octets)? {
+        Message::Registration(claim) => Some(claim),
+        _ => None,
+    }
+}
+
+/// The registration or refresh that the octets spell, if they spell one.
+fn claim_in(octets: &[u8]) -> Option<Registration<'_>> {
+    match read(octets)? {
+        Message::Registration(claim) => Some(claim),
+        Message::Refresh(claim) => Some(claim),
+        _ => None,
+    }
+}
