@@ -4,8 +4,10 @@ ghost use Rattle.std.specs.Prelude.{◌≡◌, Ok};
 ghost use Rattle.nbt_port.specs.PortCalls.{receiving, sending, CountsFailure};
 
 use arrayvec::ArrayVec;
+use nbt_front::FrontPort;
 use nbt_name::read_word;
 use nbt_port::{Cause, Device, OwnReplies, Port, Route};
+use nbt_serve::SambaPort;
 use std::io::Write;
 use std::marker::Model;
 
@@ -96,6 +98,18 @@ impl<P: Port> Port for FlagsPort<P> {
 
     fn tell_changes<E: Write>(&self, errors: &mut E) {
         self.beneath.tell_changes(errors)
+    }
+}
+
+impl<P: TellsFlags> TellsFlags for SambaPort<P> {
+    fn flags(&self) -> u16 {
+        self.beneath().flags()
+    }
+}
+
+impl<P: TellsFlags, C> TellsFlags for FrontPort<'_, P, C> {
+    fn flags(&self) -> u16 {
+        self.beneath().flags()
     }
 }
 

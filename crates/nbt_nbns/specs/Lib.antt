@@ -1,3 +1,4 @@
+pub mod Asking
 pub mod Begin
 pub mod Checking
 pub mod Contents

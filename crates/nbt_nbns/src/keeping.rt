@@ -207,7 +207,7 @@ pub(crate) fn take_watched<P: Port, S: Store, C: Clock, D: Clock, V: Watcher, W:
 }
 
 /// Looks after the file, if there is a state, after a turn that went well. Returns what came of the turn.
-fn after_turn<S: Store, D: Clock, E: Write>(
+pub(crate) fn after_turn<S: Store, D: Clock, E: Write>(
     state: &mut Option<State<S>>,
     day: &mut D,
     rows: &mut Vec<(Name, Lease)>,
@@ -243,7 +243,7 @@ fn ending<S>(until: &Option<Moment>, at: Moment, state: &Option<State<S>>) -> Tu
 }
 
 /// One turn, and the moment after it: `shown` is what it was, where it went well. Returns what left in it.
-fn turn_and_moment<P: Port, C: Clock, S: Store>(
+pub(crate) fn turn_and_moment<P: Port, C: Clock, S: Store>(
     port: &mut P,
     clock: &mut C,
     server: &mut Server,

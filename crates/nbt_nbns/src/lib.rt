@@ -3,6 +3,7 @@
 #![tactic(auto)]
 
 mod arguments;
+mod asking;
 mod barring;
 mod checking;
 mod complaint;
@@ -34,6 +35,7 @@ mod teller;
 mod unlocked;
 
 pub use arguments::{NbnsArguments, ServerArguments, StateFolder};
+pub use asking::{MachineIds, keep_asking};
 pub use checking::{check_server, write_check};
 pub use content::Content;
 pub use first_line::{

@@ -256,7 +256,7 @@ impl<
 }
 
 /// The source looks, and its front is put in place, if it has one.
-fn look_for_front<P: Renewable, C: Clock, V: NotesFixed, R: FrontSource, E: Write>(
+pub(crate) fn look_for_front<P: Renewable, C: Clock, V: NotesFixed, R: FrontSource, E: Write>(
     port: &mut P,
     clock: &mut C,
     server: &Server,

@@ -13,9 +13,11 @@ ghost use Rattle.nbt_nbns.specs.declared.starting.Started.{Started as Begun};
 ghost use Rattle.nbt_serve.specs.declared.fault.KeepFault.TheVariants as fault;
 
 use crate::arguments::NbnsArguments;
+use crate::asking::{MachineIds, keep_asking};
 use crate::renewing::{NotesFixed, Renewable, keep_renewed};
 use crate::starting::{Started, start};
 use crate::staying::Watcher;
+use nbt_asking::{Asking, AskingPort, FlagsPort, Ids, TellsFlags};
 use nbt_front::{Desk, FrontFiles, FrontPort, FrontSource};
 use nbt_lease::Moment;
 use nbt_port::{Clock, Fault, Port, UdpPorts, steady_clock, tell_end_of, until_of};
@@ -24,6 +26,7 @@ use nbt_store::Store;
 use std::alloc::Global;
 use std::io::Write;
 use std::net::Net;
+use std::random::RandomSource;
 use std::rt::Files;
 use std::time;
 
@@ -34,7 +37,7 @@ use std::time;
 /// memory before the first line; `Output` where one of these files is none that may be replaced, and then nothing is printed, or where
 /// the first line can't be written; `Device` at the hundredth turn in a row that fails. Of each but `Memory` a line in `errors` says what
 /// failed, and why. A failure to write to `errors` is ignored.
-pub fn run_nbns<M: Net + time::Clock + Files, W: Write, E: Write>(
+pub fn run_nbns<M: Net + time::Clock + RandomSource + Files, W: Write, E: Write>(
     machine: &M,
     alloc: Global,
     arguments: &NbnsArguments,
@@ -49,6 +52,8 @@ pub fn run_nbns<M: Net + time::Clock + Files, W: Write, E: Write>(
 {
     let port = UdpPorts::bind(machine, alloc, &arguments.bind, errors)?;
     let clock = steady_clock(machine, arguments.bind.first(), errors)?;
+    let ask_clock = steady_clock(machine, arguments.bind.first(), errors)?;
+    let asking = Asking::new(alloc, arguments.rows_per_client)?;
     let started = start(machine, alloc, arguments, &port, writer, errors)?;
     let until = until_of(started.server.last(), arguments.time);
     let desk = Desk::new(alloc, &arguments.front, clock);
@@ -57,6 +62,8 @@ pub fn run_nbns<M: Net + time::Clock + Files, W: Write, E: Write>(
         port,
         arguments.strict,
         desk,
+        ask_clock,
+        asking,
         started,
         &mut files,
         until,
@@ -76,13 +83,15 @@ pub(crate) fn keep_over<
     D: Clock + Drop,
     V: Watcher + NotesFixed + Drop,
     R: FrontSource,
-    M: Net + time::Clock + Files,
+    M: Net + time::Clock + RandomSource + Files,
     W: Write,
     E: Write,
 >(
     port: UdpPorts<'_, M>,
     strict: bool,
     desk: Desk<'_, F>,
+    ask_clock: F,
+    asking: Asking,
     started: Started<S, C, D, V>,
     source: &mut R,
     until: Option<Moment>,
@@ -113,8 +122,9 @@ pub(crate) fn keep_over<
             errors,
         )
     } else {
-        let port = FrontPort::new(SambaPort::new(port), desk);
-        keep_to_its_end(
+        let front = FrontPort::new(SambaPort::new(FlagsPort::new(port)), desk);
+        let port = AskingPort::new(front, ask_clock, MachineIds::new(machine), asking);
+        ask_to_its_end(
             port,
             &mut started,
             source,
@@ -156,6 +166,50 @@ fn keep_to_its_end<
 {
     let mut port = port;
     let ended = keep_renewed(
+        &mut port,
+        &mut started.clock,
+        &mut started.server,
+        &mut started.state,
+        &mut started.day,
+        &mut started.journal,
+        source,
+        until,
+        alloc,
+        machine,
+        writer,
+        errors,
+    );
+    tell_end_of(ended.err(), port.cause(), errors);
+    ended
+}
+
+/// Keeps a server up until it ends, as [`keep_asking`] does. Where the port failed for good, a line in `errors` says why.
+fn ask_to_its_end<
+    P: Port + TellsFlags + Renewable + Drop,
+    F: Clock + Drop,
+    I: Ids + Drop,
+    S: Store,
+    C: Clock,
+    D: Clock,
+    V: Watcher + NotesFixed,
+    R: FrontSource,
+    M: time::Clock,
+    W: Write,
+    E: Write,
+>(
+    port: AskingPort<P, F, I>,
+    started: &mut Started<S, C, D, V>,
+    source: &mut R,
+    until: Option<Moment>,
+    alloc: Global,
+    machine: &M,
+    writer: &mut W,
+    errors: &mut E,
+) -> Result<(), Fault>
+    requires room { HasRoom started.old.state }
+{
+    let mut port = port;
+    let ended = keep_asking(
         &mut port,
         &mut started.clock,
         &mut started.server,

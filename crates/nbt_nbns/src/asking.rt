@@ -1,0 +1,259 @@
+//! A server that stays up, and asks machines for their addresses between its turns.
+
+ghost use Rattle.std.specs.Prelude.{◌≡◌, ℕ, List, Option};
+
+use crate::barring::BarredNotes;
+use crate::full::FullNotes;
+use crate::keeping::{after_turn, shown_at_first, turn_and_moment};
+use crate::renewing::{NotesFixed, Renewable, look_for_front};
+use crate::state::{State, show, tell_store};
+use crate::staying::{Shown, Watcher};
+use arrayvec::ArrayVec;
+use nbt_asking::{AskingPort, Ids, TellsFlags};
+use nbt_front::{Front, FrontSource};
+use nbt_lease::{Lease, Moment};
+use nbt_name::Name;
+use nbt_port::{Clock, FOREVER, Fault, Port, Turn, Turned, stay_up};
+use nbt_serve::KeepFault;
+use nbt_server::Server;
+use nbt_store::Store;
+use std::alloc::{AllocError, Global};
+use std::io::Write;
+use std::random::RandomSource;
+use std::time;
+
+/// Ids from a machine's source of random octets.
+#[derive(Drop)]
+pub struct MachineIds<'a, M> {
+    machine: &'a M,
+}
+
+impl<'a, M> MachineIds<'a, M> {
+    /// Those of this machine.
+    pub fn new(machine: &'a M) -> MachineIds<'a, M> {
+        MachineIds { machine }
+    }
+}
+
+impl<M: RandomSource> Ids for MachineIds<'_, M> {
+    fn draw(&mut self) -> Option<u16> {
+        let mut octets = [0; 2];
+        match self.machine.fill_bytes(&mut octets) {
+            Ok(()) => Some(u16::from_be_bytes(octets)),
+            Err(_) => None,
+        }
+    }
+}
+
+impl<P: Renewable, C, I> Renewable for AskingPort<P, C, I> {
+    ghost use Rattle.nbt_nbns.specs.Asking.{RenewsAsking};
+
+    ghost renews = { RenewsAsking P.renews };
+
+    fn front(&self) -> &Front {
+        self.beneath().front()
+    }
+
+    fn standing(&self) -> &[(Name, Lease)] {
+        self.beneath().standing()
+    }
+
+    fn renew(
+        &mut self,
+        front: Front,
+        live: Vec<(Name, Lease)>,
+        at: Moment,
+    ) -> Result<(), AllocError> {
+        self.beneath_mut().renew(front, live, at)
+    }
+}
+
+/// The server goes through turns as [`crate::keep_renewed`] does, and asks machines for their addresses between them, as
+/// [`AskingPort::attend`] says. What a request is that waits isn't shown as a refusal.
+pub fn keep_asking<
+    P: Port + TellsFlags + Renewable,
+    F: Clock,
+    I: Ids,
+    S: Store,
+    C: Clock,
+    D: Clock,
+    V: Watcher + NotesFixed,
+    R: FrontSource,
+    M: time::Clock,
+    W: Write,
+    E: Write,
+>(
+    port: &mut AskingPort<P, F, I>,
+    clock: &mut C,
+    server: &mut Server,
+    state: &mut Option<State<S>>,
+    day: &mut D,
+    watcher: &mut V,
+    source: &mut R,
+    until: Option<Moment>,
+    alloc: Global,
+    machine: &M,
+    writer: &mut W,
+    errors: &mut E,
+) -> Result<(), Fault> {
+    let mut rows = Vec::new(alloc);
+    let shown = shown_at_first(port, server, state);
+    let mut turn = AskingTurn {
+        port,
+        clock,
+        server,
+        kept: state,
+        day,
+        watcher,
+        source,
+        until,
+        writer,
+        rows: &mut rows,
+        octets: ArrayVec::new(),
+        reply: ArrayVec::new(),
+        shown,
+        full: FullNotes::new(),
+        barred: BarredNotes::new(),
+        alloc,
+    };
+    stay_up(&mut turn, FOREVER, machine, errors)
+}
+
+/// One turn of a server that asks, and what becomes of its front after it.
+#[derive(Drop)]
+struct AskingTurn<'p, 'c, 's, 'k, 'd, 'v, 'r, 'w, 'b, P, F, I, S, C, D, V, R, W> {
+    port: &'p mut AskingPort<P, F, I>,
+    clock: &'c mut C,
+    server: &'s mut Server,
+    kept: &'k mut Option<State<S>>,
+    day: &'d mut D,
+    watcher: &'v mut V,
+    source: &'r mut R,
+    until: Option<Moment>,
+    writer: &'w mut W,
+    rows: &'b mut Vec<(Name, Lease)>,
+    octets: ArrayVec<u8, 2048>,
+    reply: ArrayVec<u8, 576>,
+    shown: Shown,
+    full: FullNotes,
+    barred: BarredNotes,
+    alloc: Global,
+    ghost room: { HasRoom kept.now },
+}
+
+impl<
+    P: Port + TellsFlags + Renewable,
+    F: Clock,
+    I: Ids,
+    S: Store,
+    C: Clock,
+    D: Clock,
+    V: Watcher + NotesFixed,
+    R: FrontSource,
+    W: Write,
+> Turn for AskingTurn<'_, '_, '_, '_, '_, '_, '_, '_, '_, P, F, I, S, C, D, V, R, W> {
+    ghost use Rattle.std.specs.Prelude.{[], ◌∷◌};
+    ghost use Rattle.nbt_asking.specs.Port.{AskingPortValue};
+    ghost use Rattle.nbt_nbns.specs.declared.staying.Shown.{Shown as TurnShown};
+    ghost use Rattle.nbt_nbns.specs.Staying.{Staying};
+
+    ghost State = { Staying (AskingPortValue P) S C D V };
+
+    ghost Shown = { TurnShown };
+
+    ghost Fixed = { Option ℕ × List ℕ };
+
+    ghost state = { λ t. record { served = record { port = t.port.now; clock = t.clock.now; server = t.server.now; state = t.kept.now }; day = t.day.now; watcher = t.watcher.now; text = W.contents t.writer.now } };
+
+    ghost fixed = { λ t. (t.until, t.port.ghost_name ∷ t.clock.ghost_name ∷ t.server.ghost_name ∷ t.kept.ghost_name ∷ t.day.ghost_name ∷ t.watcher.ghost_name ∷ t.source.ghost_name ∷ t.writer.ghost_name ∷ []) };
+
+    ghost turns = { λ f. AsksOn P.does P.failures P.renews S.does C.tells D.tells V.sees V.notes f.0 };
+
+    ghost breaks = { λ _. BreaksStaying (AskingDoes P.does) S.does C.tells fault.Port };
+
+    ghost last = { λ f. AsksLast P.does P.failures S.does C.tells D.tells V.sees f.0 };
+
+    ghost cuts = { λ _. CutsAsking P.does P.failures S.does C.tells D.tells V.sees };
+
+    fn take<E: Write>(&mut self, errors: &mut E) -> Turned {
+        let turned = take_asking(
+            self.port,
+            self.clock,
+            self.server,
+            self.kept,
+            self.day,
+            self.watcher,
+            &self.until,
+            self.writer,
+            self.rows,
+            &mut self.octets,
+            &mut self.reply,
+            &mut self.shown,
+            &mut self.full,
+            &mut self.barred,
+            errors,
+        );
+        if let Turned::Well = turned {
+            look_for_front(
+                self.port,
+                self.clock,
+                self.server,
+                self.watcher,
+                self.source,
+                self.shown.at,
+                self.alloc,
+                errors,
+            );
+        }
+        turned
+    }
+}
+
+/// A turn of a server that asks, and what it does between this turn and the next. What came of it is returned; where it went well, `shown`
+/// has the moment after it.
+fn take_asking<
+    P: Port + TellsFlags,
+    F: Clock,
+    I: Ids,
+    S: Store,
+    C: Clock,
+    D: Clock,
+    V: Watcher,
+    W: Write,
+    E: Write,
+>(
+    port: &mut AskingPort<P, F, I>,
+    clock: &mut C,
+    server: &mut Server,
+    state: &mut Option<State<S>>,
+    day: &mut D,
+    watcher: &mut V,
+    until: &Option<Moment>,
+    writer: &mut W,
+    rows: &mut Vec<(Name, Lease)>,
+    octets: &mut ArrayVec<u8, 2048>,
+    reply: &mut ArrayVec<u8, 576>,
+    shown: &mut Shown,
+    full: &mut FullNotes,
+    barred: &mut BarredNotes,
+    errors: &mut E,
+) -> Turned {
+    let sent = match turn_and_moment(port, clock, server, state, octets, reply, shown) {
+        Ok(sent) => sent,
+        Err(KeepFault::Port) => {
+            port.tell_changes(errors);
+            return Turned::Failed(port.cause());
+        }
+        Err(KeepFault::Store) => {
+            tell_store(state, errors);
+            return Turned::CutOff(Fault::Store);
+        }
+    };
+    port.attend(server, octets.as_slice(), &mut shown.entry);
+    port.tell_changes(errors);
+    let at = shown.at;
+    let is_full = full.tell(state, at, errors);
+    barred.tell(state, is_full, at, errors);
+    show(state, server, sent, shown, watcher, writer, errors);
+    after_turn(state, day, rows, server, until, at, errors)
+}
