@@ -1,3 +1,4 @@
 pub mod Inner
 pub mod Asking
 pub mod Port
+pub mod Attending
