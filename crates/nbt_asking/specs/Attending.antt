@@ -161,6 +161,25 @@ pub data FollowsLease (table : TableValue) (now : ℕ) (row : Further) (old : As
   anothers : leases_at now table.rows row.name ≢ [] → ¬ IsLeasedBy row.holder (leases_at now table.rows row.name) → FollowsLease table now row old (record old { further = without_name row.name old.further })
   over : (new : AskingValue) → leases_at now table.rows row.name ≡ [] → PassesOn now row.name row.holder old new → FollowsLease table now row old new
 
+-- the same of the first of them
+abbrev pub FollowsFirst : TableValue → (now : ℕ) → AskingValue → AskingValue → Type 0
+FollowsFirst table now old new = (row : Further) × (find (is_over now) old.further ≡ Some row) × FollowsLease table now row old new
+
+-- The first request that waited for a lease's end that is there: the one is asked that has a lease of the name by now, or the requester itself.
+pub data Wakes (table : TableValue) (now : ℕ) (old : AskingValue) : AskingValue → Type 0 where
+  for_holder : (r : Request) (lease : Lease) (others : List Lease) → find (λ q. is_past now q.awaits) old.waits.requests ≡ Some r → leases_at now table.rows r.name ≡ lease ∷ others
+      → Wakes table now old (waiting (asking a.Holder lease.addr r) (record old { waits = record old.waits { requests = without_first (λ q. is_past now q.awaits) old.waits.requests } }))
+  for_itself : (r : Request) → find (λ q. is_past now q.awaits) old.waits.requests ≡ Some r → leases_at now table.rows r.name ≡ []
+      → Wakes table now old (waiting (asking a.AfterLease r.from.ip r) (record old { waits = record old.waits { requests = without_first (λ q. is_past now q.awaits) old.waits.requests } }))
+
+-- What becomes of a request that the server refused, since the lease of the address `r.asked` stands in its way: a further address of that machine is
+-- renewed, and no longer than that lease; any other request waits for what that machine says.
+pub data Holds (table : TableValue) (now : ℕ) (r : Request) (old : AskingValue) : List DatagramValue → AskingValue → Type 0 where
+  renews : (end : ℕ) (sends : List DatagramValue) (new : AskingValue) → list_any (λ row. is_confirmed now r.name r.asked row && nat_eq row.addr r.addr) old.further ≡ true → IsLeasedUntil r.asked end (leases_at now table.rows r.name)
+      → Accepts now (min (until_of table now r.ttl) end) r (record old { further = with_first (is_at r.name r.addr) (renewed_row r.asked (until_of table now r.ttl) end) old.further }) sends new
+      → Holds table now r old sends new
+  waits : ((end : ℕ) → list_any (λ row. is_confirmed now r.name r.asked row && nat_eq row.addr r.addr) old.further ≡ true → ¬ IsLeasedUntil r.asked end (leases_at now table.rows r.name)) → Holds table now r old [] (waiting r old)
+
 -- ---- one thing after the other
 
 -- what the server did in its turn with octets that came so
@@ -185,17 +204,13 @@ module _ {P : Type 0} (table : TableValue) (now : ℕ) where
     gives_up : (p : Pending) (sends : List (List DatagramValue)) (new : AskingValue) → find (is_unanswered now) old.asking.waits.pending ≡ Some p
         → Chain (ServesSilence table now p.inquiry) (record old.asking { waits = record old.asking.waits { pending = without_first (is_unanswered now) old.asking.waits.pending } }) sends new
         → Does turned old (flat_map (λ s. s) sends) (with_asking new old)
-    renews : (t : Turned) (r : Request) (end : ℕ) (sends : List DatagramValue) (new : AskingValue) → turned ≡ Some t → IsHeldBack table now t.came t.octets t.outcome r
-        → list_any (λ row. is_confirmed now r.name r.asked row && nat_eq row.addr r.addr) old.asking.further ≡ true → IsLeasedUntil r.asked end (leases_at now table.rows r.name)
-        → Accepts now (min (until_of table now r.ttl) end) r (record old.asking { further = with_first (is_at r.name r.addr) (renewed_row r.asked (until_of table now r.ttl) end) old.asking.further }) sends new
+    holds_back : (t : Turned) (r : Request) (sends : List DatagramValue) (new : AskingValue) → turned ≡ Some t → IsHeldBack table now t.came t.octets t.outcome r → Holds table now r old.asking sends new
         → Does turned old sends (with_asking new old)
-    holds_back : (t : Turned) (r : Request) → turned ≡ Some t → IsHeldBack table now t.came t.octets t.outcome r → Does turned old [] (with_asking (waiting r old.asking) old)
     refuses_at_once : (t : Turned) (r : Registration) → turned ≡ Some t → Claims t.octets r → ((q : Request) → ¬ IsHeldBack table now t.came t.octets t.outcome q)
         → Does turned old (datagram (route_of t.came) (text (registered active_error (record r { ttl = 0 }))) ∷ []) old
     passes_on : (t : Turned) (claim : Claim) (new : AskingValue) → turned ≡ Some t → t.outcome ≡ Released claim → claim.kind ≡ Unique → PassesOn now claim.name claim.addr old.asking new → Does turned old [] (with_asking new old)
-    wakes : (r : Request) (awaits : Awaits) (asked : ℕ) → find (λ q. is_past now q.awaits) old.asking.waits.requests ≡ Some r → (awaits ≡ a.Holder) ⊎ (awaits ≡ a.AfterLease × (leases_at now table.rows r.name ≡ []))
-        → Does turned old [] (with_asking (waiting (asking awaits asked r) (record old.asking { waits = record old.asking.waits { requests = without_first (λ q. is_past now q.awaits) old.asking.waits.requests } })) old)
-    follows : (row : Further) (new : AskingValue) → find (is_over now) old.asking.further ≡ Some row → FollowsLease table now row old.asking new → Does turned old [] (with_asking new old)
+    wakes : (new : AskingValue) → Wakes table now old.asking new → Does turned old [] (with_asking new old)
+    follows : (new : AskingValue) → FollowsFirst table now old.asking new → Does turned old [] (with_asking new old)
     repeats : (way : Way) (octets : List ℕ) → Sends (inquiry_in (find (is_to_repeat now) old.asking.waits.pending)) (Some way) octets
         → Does turned old (datagram (query_to way) octets ∷ []) (with_asking (record old.asking { waits = record old.asking.waits { pending = with_first (is_to_repeat now) (repeated now) old.asking.waits.pending } }) old)
     begins : (id : ℕ) (way : Way) (octets : List ℕ) → Sends (inquiry_in (next_begun now id old.asking.waits)) (Some way) octets

@@ -1,2 +1,3 @@
 -- What only the contracts of private functions cite: a caller needs none of it.
 pub mod Placing
+pub mod Parts

@@ -1,13 +1,25 @@
 //! What a server has that asks machines for their addresses, beside its leases.
 
-ghost use Rattle.std.specs.Prelude.{◌≡◌, ◌≤◌};
+ghost use Rattle.std.specs.Prelude.{◌≡◌, ◌≢◌, ◌↔◌, ◌+◌, ◌≤◌, ℕ, [], Some, None, IfOk, IfSome, IfNone, IsTrue, MatchBool};
+ghost use Rattle.std.specs.List.{find, list_any};
+ghost use Rattle.std.specs.Option.{option_map};
+ghost use Rattle.nbt_lease.specs.Config.{milliseconds};
+ghost use Rattle.nbt_lease.specs.Lease.{leases_at};
+ghost use Rattle.nbt_lease.specs.declared.config.TheConstants.{LONGEST_MOST};
+ghost use Rattle.nbt_name.specs.declared.addr.Kind.TheVariants.{Unique};
+ghost use Rattle.nbt_server.specs.Serving.{seconds_until};
+ghost use Rattle.nbt_confirm.specs.Further.{is_at, is_next, without};
+ghost use Rattle.nbt_confirm.specs.declared.outcome.Outcome.TheVariants.{AwaitLeaseEnd, Further as FurtherOutcome};
+ghost use Rattle.nbt_asking.specs.Asking.{asks_nothing};
+ghost use Rattle.nbt_asking.specs.Attending.{Accepts, ConfirmsIt, FollowsFirst, Holds, IsFull, IsLeasedUntil, PassesOn, Settles, SettlesBy, Wakes, granting, is_over, replied, reply, until_of, waiting};
+ghost use Rattle.nbt_asking.specs.Inner.Parts.{TakesGranted, sends_of};
 
 use crate::replies::{ACTIVE, REFUSED, SERVER_ERROR, route_of, write_claim, write_reply};
 use crate::tally::{AskTally, Asked, Note};
 use arrayvec::ArrayVec;
 use nbt_confirm::{
-    Awaits, Came, Further, FurtherAddresses, Machine, NAME_PORT, Outcome, Put, Request, Served, Taken,
-    WAITS_MOST, Waits, wait_seconds, write_wait,
+    Awaits, Came, Further, FurtherAddresses, Machine, NAME_PORT, Outcome, Put, Request, Served,
+    Taken, WAITS_MOST, Waits, wait_seconds, write_wait,
 };
 use nbt_lease::{Lease, Moment, Table};
 use nbt_name::{Addr, Kind, Name};
@@ -57,7 +69,9 @@ impl Model for Asking {
 
 impl Asking {
     /// Nothing waits, and nothing is confirmed. A client has so many rows at most, leases and further addresses together.
-    pub fn new(alloc: Global, rows_per_client: u32) -> Result<Asking, AllocError> {
+    pub fn new(alloc: Global, rows_per_client: u32) -> Result<Asking, AllocError>
+        ensures { IfOk result (λ asking. asking ≡ asks_nothing rows_per_client) }
+    {
         Ok(Asking {
             waits: Waits::new(alloc)?,
             further: FurtherAddresses::new(alloc)?,
@@ -69,7 +83,9 @@ impl Asking {
     }
 
     /// The requests that wait, and the inquiries under way.
-    pub fn waits(&self) -> &Waits {
+    pub fn waits(&self) -> &Waits
+        ensures { result.now ≡ self.now.waits }
+    {
         &self.waits
     }
 
@@ -79,7 +95,9 @@ impl Asking {
     }
 
     /// The further addresses.
-    pub fn further(&self) -> &FurtherAddresses {
+    pub fn further(&self) -> &FurtherAddresses
+        ensures { result.now ≡ self.now.further }
+    {
         &self.further
     }
 
@@ -89,12 +107,16 @@ impl Asking {
     }
 
     /// The first note that the log doesn't have yet.
-    pub fn take_note(&mut self) -> Option<Note> {
+    pub fn take_note(&mut self) -> Option<Note>
+        ensures { self.new ≡ self.old }
+    {
         self.notes.pop_front()
     }
 
     /// Whether an inquiry is under way.
-    pub(crate) fn is_asking(&self) -> bool {
+    pub(crate) fn is_asking(&self) -> bool
+        ensures { IsTrue result ↔ (self.now.waits.pending ≢ []) }
+    {
         !self.waits.pending().is_empty()
     }
 
@@ -111,13 +133,18 @@ impl Asking {
     }
 
     /// An inquiry more began.
-    pub(crate) fn count_inquiry(&mut self) {
+    pub(crate) fn count_inquiry(&mut self)
+        ensures { self.new ≡ self.old }
+    {
         self.tally.inquiries = self.tally.inquiries.saturating_add(1);
     }
 
     /// The first request that the server may grant, as it comes to it: leaves its registration in `octets`, and returns how it came; `None`
     /// if there is none.
-    pub(crate) fn take_granted(&mut self, octets: &mut ArrayVec<u8, 2048>) -> Option<Came> {
+    pub(crate) fn take_granted(&mut self, octets: &mut ArrayVec<u8, 2048>) -> Option<Came>
+        ensures taken { IfSome result (TakesGranted self.old octets.new.items self.new) }
+        ensures none { IfNone result ((self.old.granted ≡ []) × (self.new ≡ self.old) × (octets.new.items ≡ octets.old.items)) }
+    {
         let request = self.granted.pop_front()?;
         let mut text = ArrayVec::new();
         write_claim(&request, &mut text);
@@ -138,31 +165,40 @@ impl Asking {
         now: Moment,
         request: Request,
         out: &mut ArrayVec<u8, 576>,
-    ) -> Option<Leaving> {
+    ) -> Option<Leaving>
+        requires { table.now.last ≤ now }
+        ensures { Holds table.now now request self.old (sends_of result out.new.items) self.new }
+    {
         let holder = request.asked;
         if !self.further.has(now, &request.name, holder, request.addr) {
             self.wait(request);
             return None;
         }
-        let lease_end = end_of(table, now, &request.name, holder)?;
+        let Some(lease_end) = end_of(table, now, &request.name, holder) else {
+            self.wait(request);
+            return None;
+        };
         let until = until_of(table, now, request.ttl);
         self.further
             .renew(&request.name, holder, request.addr, until, lease_end);
         Some(self.accept(now, request, until.min(lease_end), out))
     }
 
-    /// Does with a request that was served what is to be done. The reply is in `out` then, if there is one.
+    /// Does with a request that was served what is to be done where no further address is confirmed. The reply is in `out` then, if there is
+    /// one.
     pub(crate) fn settle(
         &mut self,
         table: &Table,
         now: Moment,
         served: Served,
-        machine: Option<&Machine>,
         out: &mut ArrayVec<u8, 576>,
-    ) -> Option<Leaving> {
+    ) -> Option<Leaving>
+        requires time { table.now.last ≤ now }
+        requires heard { served.outcome ≢ FurtherOutcome }
+        ensures { Settles table.now now served.request self.old served.outcome (sends_of result out.new.items) self.new }
+    {
         let mut request = served.request;
         match served.outcome {
-            Outcome::Further => self.confirm(table, now, request, machine?, out),
             Outcome::Refuse => Some(self.answer(request, Asked::Refused, ACTIVE, out)),
             Outcome::AskRequester => {
                 request.awaits = Awaits::Requester;
@@ -186,11 +222,29 @@ impl Asking {
                 self.note(Asked::Reached, &request, 0);
                 None
             }
-            Outcome::Nothing => {
+            Outcome::Nothing | Outcome::Further => {
                 self.note(Asked::Unanswered, &request, 0);
                 None
             }
         }
+    }
+
+    /// The same, where this machine answered.
+    pub(crate) fn settle_by(
+        &mut self,
+        table: &Table,
+        now: Moment,
+        served: Served,
+        machine: &Machine,
+        out: &mut ArrayVec<u8, 576>,
+    ) -> Option<Leaving>
+        requires { table.now.last ≤ now }
+        ensures { SettlesBy table.now now machine.now served.request self.old served.outcome (sends_of result out.new.items) self.new }
+    {
+        if served.outcome == Outcome::Further {
+            return self.confirm(table, now, served.request, machine, out);
+        }
+        self.settle(table, now, served, out)
     }
 
     /// The request's address is a further one of the machine: it is put among them, and the reply is positive; or SRV_ERR where there is no
@@ -202,7 +256,10 @@ impl Asking {
         request: Request,
         machine: &Machine,
         out: &mut ArrayVec<u8, 576>,
-    ) -> Option<Leaving> {
+    ) -> Option<Leaving>
+        requires { table.now.last ≤ now }
+        ensures { ConfirmsIt table.now now machine.now request self.old (sends_of result out.new.items) self.new }
+    {
         let confirmed = machine.further(request.addr);
         let lease_end = end_of(table, now, machine.name(), machine.asked());
         let (Some(confirmed), Some(lease_end)) = (confirmed, lease_end) else {
@@ -231,7 +288,9 @@ impl Asking {
         request: Request,
         until: u64,
         out: &mut ArrayVec<u8, 576>,
-    ) -> Leaving {
+    ) -> Leaving
+        ensures { Accepts now until request self.old (sends_of (Some result) out.new.items) self.new }
+    {
         let seconds = seconds_until(now, until);
         write_reply(&request, 0, seconds, out);
         self.note(Asked::Confirmed, &request, seconds);
@@ -265,6 +324,8 @@ impl Asking {
         out: &mut ArrayVec<u8, 576>,
     ) -> Leaving
         requires { rcode ≤ 15 }
+        ensures sends { sends_of (Some result) out.new.items ≡ replied (reply rcode 0 request) request }
+        ensures same { self.new ≡ self.old }
     {
         write_reply(&request, rcode, 0, out);
         self.note(asked, &request, 0);
@@ -281,7 +342,10 @@ impl Asking {
         now: Moment,
         request: Request,
         out: &mut ArrayVec<u8, 576>,
-    ) -> Option<Leaving> {
+    ) -> Option<Leaving>
+        requires { table.now.last ≤ now }
+        ensures { Settles table.now now request self.old AwaitLeaseEnd (sends_of result out.new.items) self.new }
+    {
         let Some(end) = table.least_end(now, &request.name) else {
             self.grant(request);
             return None;
@@ -297,7 +361,9 @@ impl Asking {
     }
 
     /// The server has the request next, as if it had come now. It is lost where so many wait for that as requests may wait.
-    fn grant(&mut self, request: Request) {
+    fn grant(&mut self, request: Request)
+        ensures { self.new ≡ granting request self.old }
+    {
         if self.granted.len() >= WAITS_MOST {
             self.note(Asked::Lost, &request, 0);
             return;
@@ -307,7 +373,9 @@ impl Asking {
     }
 
     /// The request waits, unless too many do, or the same one does.
-    pub(crate) fn wait(&mut self, request: Request) {
+    pub(crate) fn wait(&mut self, request: Request)
+        ensures { self.new ≡ waiting request self.old }
+    {
         let name = request.name.copy();
         let note = note_of(Asked::Waits, name, &request, 0);
         match self.waits.take(request) {
@@ -322,7 +390,10 @@ impl Asking {
 
     /// The first request that waited for a lease's end that is there: it is asked again itself, or the one is that has the lease by now.
     /// Returns whether there was one.
-    pub(crate) fn wake(&mut self, table: &Table, now: Moment) -> bool {
+    pub(crate) fn wake(&mut self, table: &Table, now: Moment) -> bool
+        requires { table.now.last ≤ now }
+        ensures { MatchBool result (Wakes table.now now self.old self.new) (self.new ≡ self.old) }
+    {
         let Some(mut request) = self.waits.wake(now) else {
             return false;
         };
@@ -341,7 +412,9 @@ impl Asking {
     }
 
     /// The holder released a name: the next of its machine's addresses is granted it, by the server's rules.
-    pub(crate) fn pass_on(&mut self, now: Moment, name: &Name, holder: u32) {
+    pub(crate) fn pass_on(&mut self, now: Moment, name: &Name, holder: u32)
+        ensures { PassesOn now name.now holder self.old self.new }
+    {
         let Some(left) = left_of_next(self.further.rows(), now, name, holder) else {
             self.further.end_all(name);
             return;
@@ -369,12 +442,19 @@ impl Asking {
     /// The first further address that isn't listed any longer, though its own refreshes last: it is listed as long as the holder's lease, where
     /// that was renewed; where it is over, the next address is granted the name; where another has it, all of them end. Returns whether there
     /// was one.
-    pub(crate) fn follow_lease(&mut self, table: &Table, now: Moment) -> bool {
+    pub(crate) fn follow_lease(&mut self, table: &Table, now: Moment) -> bool
+        requires { table.now.last ≤ now }
+        ensures { MatchBool result (FollowsFirst table.now now self.old self.new) (self.new ≡ self.old) }
+    {
         let Some(row) = first_over(self.further.rows(), now) else {
             return false;
         };
-        let (name, holder, addr, until) =
-            (row.name.copy(), row.holder, row.addr, row.renewed_until);
+        let (name, holder, addr, until) = (
+            row.name.copy(),
+            row.holder,
+            row.addr,
+            row.renewed_until,
+        );
         match table.members(now, &name).next() {
             Some(lease) if is_of(&lease, holder) => {
                 self.further.renew(&name, holder, addr, until, lease.end)
@@ -386,7 +466,10 @@ impl Asking {
     }
 
     /// Ends a further address, for its own release. Returns whether it was one.
-    pub(crate) fn release(&mut self, name: &Name, addr: u32) -> bool {
+    pub(crate) fn release(&mut self, name: &Name, addr: u32) -> bool
+        ensures is { result ≡ list_any (is_at name.now addr) self.old.further }
+        ensures further { self.new ≡ record self.old { further = without name.now addr self.old.further } }
+    {
         let is_there = self
             .further
             .rows()
@@ -399,18 +482,24 @@ impl Asking {
     }
 
     /// Whether a client has as many rows as it may have.
-    fn is_full(&self, table: &Table, now: Moment, client: u32) -> bool {
+    fn is_full(&self, table: &Table, now: Moment, client: u32) -> bool
+        ensures { IsTrue result ↔ IsFull table.now now client self.now }
+    {
         let own = self.further.count_of(now, client) as u32;
         table.has_at_least(now, client, self.rows_per_client.saturating_sub(own))
     }
 
     /// What came of a request is counted, and noted.
-    fn note(&mut self, asked: Asked, request: &Request, seconds: u32) {
+    fn note(&mut self, asked: Asked, request: &Request, seconds: u32)
+        ensures { self.new ≡ self.old }
+    {
         let note = note_of(asked, request.name.copy(), request, seconds);
         self.keep_note(note);
     }
 
-    fn keep_note(&mut self, note: Note) {
+    fn keep_note(&mut self, note: Note)
+        ensures { self.new ≡ self.old }
+    {
         self.tally.count(note.asked);
         if self.notes.len() < NOTES_MOST {
             self.notes.push_back_reserved(note);
@@ -430,13 +519,17 @@ fn note_of(asked: Asked, name: Name, request: &Request, seconds: u32) -> Note {
 }
 
 /// Whether a lease is a unique name's, of this address.
-fn is_of(lease: &Lease, holder: u32) -> bool {
+fn is_of(lease: &Lease, holder: u32) -> bool
+    ensures { IsTrue result ↔ ((lease.now.kind ≡ Unique) × (lease.now.addr ≡ holder)) }
+{
     lease.kind == Kind::Unique && lease.addr == holder
 }
 
 /// The expiry of this address's lease of a unique name; none if it has none.
 fn end_of(table: &Table, now: Moment, name: &Name, holder: u32) -> Option<u64>
     requires { table.now.last ≤ now }
+    ensures some { IfSome result (λ end. IsLeasedUntil holder end (leases_at now table.now.rows name.now)) }
+    ensures none { IfNone result ((end : ℕ) → ¬ IsLeasedUntil holder end (leases_at now table.now.rows name.now)) }
 {
     let lease = table.members(now, name).next()?;
     if is_of(&lease, holder) {
@@ -447,24 +540,38 @@ fn end_of(table: &Table, now: Moment, name: &Name, holder: u32) -> Option<u64>
 }
 
 /// Until when a request for so many seconds lasts, in milliseconds.
-fn until_of(table: &Table, now: Moment, ttl: u32) -> u64 {
+fn until_of(table: &Table, now: Moment, ttl: u32) -> u64
+    ensures { result ≡ until_of table.now now ttl }
+{
     now.get() + SECOND * u64::from(table.config().granted(ttl))
 }
 
 /// The seconds until then, rounded up.
-fn seconds_until(now: Moment, until: u64) -> u32 {
+fn seconds_until(now: Moment, until: u64) -> u32
+    requires { until ≤ now + milliseconds LONGEST_MOST }
+    ensures { result ≡ seconds_until now until }
+{
     until.saturating_sub(now.get()).div_ceil(SECOND) as u32
 }
 
 /// The first row that isn't listed any longer, though its own refreshes last.
-fn first_over(rows: &[Further], now: Moment) -> Option<&Further> {
+fn first_over(rows: &[Further], now: Moment) -> Option<&Further>
+    ensures some { IfSome result (λ row. find (is_over now) rows.now ≡ Some row.now) }
+    ensures none { IfNone result (find (is_over now) rows.now ≡ None) }
+{
     let now = now.get();
-    rows.iter()
-        .find(|row| row.end <= now && now < row.renewed_until)
+    for row in rows {
+        if row.end <= now && now < row.renewed_until {
+            return Some(row);
+        }
+    }
+    None
 }
 
 /// For how many seconds the address still lasts that takes a lease over.
-fn left_of_next(rows: &[Further], now: Moment, name: &Name, holder: u32) -> Option<u32> {
+fn left_of_next(rows: &[Further], now: Moment, name: &Name, holder: u32) -> Option<u32>
+    ensures { result ≡ option_map (λ row. seconds_until now row.renewed_until) (find (is_next now name.now holder) rows.now) }
+{
     for row in rows {
         if row.reached
             && row.name == *name

@@ -7,8 +7,8 @@
 //! server's table, and changes none of it: leases begin, are renewed and end by the server's rules alone.
 #![tactic(auto)]
 
-mod asking;
 mod aside;
+mod asking;
 mod flags;
 mod ids;
 mod listing;
@@ -21,7 +21,7 @@ pub use asking::{Asking, Leaving};
 pub use flags::{FlagsPort, TellsFlags};
 pub use ids::{Ids, MemoryIds};
 pub use port::AskingPort;
-pub use tally::{Asked, AskTally, Note};
+pub use tally::{AskTally, Asked, Note};
 
 #[test]
 fn tries() {}

@@ -81,13 +81,15 @@ pub(crate) fn release_in(octets: &[u8]) -> Option<(Name, u32)> {
 /// Leaves in `out` the positive response to the release that these octets refuse. Returns whether they do.
 pub(crate) fn write_released(octets: &[u8], out: &mut ArrayVec<u8, 576>) -> bool {
     match read(octets) {
-        Some(Message::Released {
-            id,
-            name,
-            kind,
-            addr,
-            ..
-        }) => {
+        Some(
+            Message::Released {
+                id,
+                name,
+                kind,
+                addr,
+                ..
+            },
+        ) => {
             let reply = Message::Released {
                 id,
                 rcode: 0,
@@ -110,13 +112,15 @@ pub(crate) fn write_listed(
     octets: &[u8],
     out: &mut ArrayVec<u8, 576>,
 ) -> bool {
-    let Some(Message::Found {
-        id,
-        name,
-        ttl,
-        entries,
-        cut: false,
-    }) = read(octets)
+    let Some(
+        Message::Found {
+            id,
+            name,
+            ttl,
+            entries,
+            cut: false,
+        },
+    ) = read(octets)
     else {
         return false;
     };

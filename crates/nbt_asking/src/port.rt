@@ -1,15 +1,14 @@
 //! The port of a server that asks, and what is done between two of its turns.
 
-ghost use Rattle.std.specs.Prelude.{◌≡◌, Ok};
+ghost use Rattle.std.specs.Prelude.{◌≡◌, ◌⊎◌, Ok, None};
+ghost use Rattle.nbt_asking.specs.Attending.{Attends};
 ghost use Rattle.nbt_port.specs.PortCalls.{receiving, sending, CountsFailure};
 
 use crate::aside::{Aside, is_aside};
 use crate::asking::{Asking, Leaving, UNASKED};
 use crate::flags::TellsFlags;
 use crate::ids::Ids;
-use crate::listing::{
-    ReplyKind, is_of_unique, kind_of, release_in, write_listed, write_released,
-};
+use crate::listing::{ReplyKind, is_of_unique, kind_of, release_in, write_listed, write_released};
 use crate::replies::{ACTIVE, write_reply};
 use arrayvec::ArrayVec;
 use nbt_confirm::{
@@ -106,11 +105,7 @@ impl<P, C, I> AskingPort<P, C, I> {
 
 impl<P: Port + TellsFlags, C: Clock, I: Ids> AskingPort<P, C, I> {
     /// Sets aside what was received, where that is to be looked at first, or hands it on.
-    fn pass(
-        &mut self,
-        from: Option<Route>,
-        octets: &mut ArrayVec<u8, 2048>,
-    ) -> Option<Route> {
+    fn pass(&mut self, from: Option<Route>, octets: &mut ArrayVec<u8, 2048>) -> Option<Route> {
         let route = from?;
         let came = Came {
             from: route.peer,
@@ -130,7 +125,10 @@ impl<P: Port + TellsFlags, C: Clock, I: Ids> AskingPort<P, C, I> {
     /// it. What was set aside is looked at, a refusal is held back whose request waits, and each query and reply leaves that is due. The
     /// server stays as it is. Where the request waits, `entry` is `None` afterwards, since nothing was refused yet. A send that fails is
     /// a datagram that was lost.
-    pub fn attend(&mut self, server: &Server, octets: &[u8], entry: &mut Option<Entry>) {
+    pub fn attend(&mut self, server: &Server, octets: &[u8], entry: &mut Option<Entry>)
+        ensures attends { Attends P.does server.now octets.now entry.old self.old self.new }
+        ensures entry { (entry.new ≡ entry.old) ⊎ (entry.new ≡ None) }
+    {
         if !self.aside.is_there() && self.asking.is_idle() && !is_refused(entry) {
             return;
         }
@@ -159,10 +157,7 @@ impl<P: Port + TellsFlags, C: Clock, I: Ids> AskingPort<P, C, I> {
         }
         let came = self.aside.came();
         if came.flags >= 0x8000 {
-            let machine = self
-                .asking
-                .waits_mut()
-                .hear(came.from, self.aside.octets());
+            let machine = self.asking.waits_mut().hear(came.from, self.aside.octets());
             self.aside.drop();
             if let Some(machine) = machine {
                 self.serve(table, now, &machine);
@@ -191,7 +186,7 @@ impl<P: Port + TellsFlags, C: Clock, I: Ids> AskingPort<P, C, I> {
             };
             let leaving = self
                 .asking
-                .settle(table, now, served, Some(machine), &mut self.out);
+                .settle_by(table, now, served, machine, &mut self.out);
             self.leave(leaving);
         }
     }
@@ -206,9 +201,7 @@ impl<P: Port + TellsFlags, C: Clock, I: Ids> AskingPort<P, C, I> {
                 let Some(served) = self.asking.waits_mut().serve_silence(&silence) else {
                     break;
                 };
-                let leaving = self
-                    .asking
-                    .settle(table, now, served, None, &mut self.out);
+                let leaving = self.asking.settle(table, now, served, &mut self.out);
                 self.leave(leaving);
             }
         }

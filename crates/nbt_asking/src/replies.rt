@@ -37,10 +37,7 @@ pub(crate) fn write_reply(request: &Request, rcode: u8, seconds: u32, out: &mut 
 
 /// Leaves in `out` the registration that a request is, and nothing else (RFC 1002 section 4.2.2).
 pub(crate) fn write_claim(request: &Request, out: &mut ArrayVec<u8, 576>) {
-    write(
-        &Message::Registration(claim_of(request, request.ttl)),
-        out,
-    );
+    write(&Message::Registration(claim_of(request, request.ttl)), out);
 }
 
 /// What a request asks for, with these seconds.
