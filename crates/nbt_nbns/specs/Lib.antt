@@ -1,4 +1,5 @@
 pub mod Asking
+pub mod AskingLog
 pub mod Begin
 pub mod Checking
 pub mod Contents

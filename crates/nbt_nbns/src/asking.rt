@@ -2,6 +2,7 @@
 
 ghost use Rattle.std.specs.Prelude.{◌≡◌, ℕ, List, Option};
 
+use crate::asking_log::TellsAsked;
 use crate::barring::BarredNotes;
 use crate::full::FullNotes;
 use crate::keeping::{after_turn, shown_at_first, turn_and_moment};
@@ -12,6 +13,7 @@ use arrayvec::ArrayVec;
 use nbt_asking::{AskingPort, Ids, TellsFlags};
 use nbt_front::{Front, FrontSource};
 use nbt_lease::{Lease, Moment};
+use nbt_log::Limiter;
 use nbt_name::Name;
 use nbt_port::{Clock, FOREVER, Fault, Port, Turn, Turned, stay_up};
 use nbt_serve::KeepFault;
@@ -77,7 +79,7 @@ pub fn keep_asking<
     S: Store,
     C: Clock,
     D: Clock,
-    V: Watcher + NotesFixed,
+    V: Watcher + NotesFixed + TellsAsked,
     R: FrontSource,
     M: time::Clock,
     W: Write,
@@ -114,6 +116,10 @@ pub fn keep_asking<
         shown,
         full: FullNotes::new(),
         barred: BarredNotes::new(),
+        notes: AskedNotes {
+            limiter: Limiter::new(),
+            line: String::new(alloc),
+        },
         alloc,
     };
     stay_up(&mut turn, FOREVER, machine, errors)
@@ -137,6 +143,7 @@ struct AskingTurn<'p, 'c, 's, 'k, 'd, 'v, 'r, 'w, 'b, P, F, I, S, C, D, V, R, W>
     shown: Shown,
     full: FullNotes,
     barred: BarredNotes,
+    notes: AskedNotes,
     alloc: Global,
     ghost room: { HasRoom kept.now },
 }
@@ -148,7 +155,7 @@ impl<
     S: Store,
     C: Clock,
     D: Clock,
-    V: Watcher + NotesFixed,
+    V: Watcher + NotesFixed + TellsAsked,
     R: FrontSource,
     W: Write,
 > Turn for AskingTurn<'_, '_, '_, '_, '_, '_, '_, '_, '_, P, F, I, S, C, D, V, R, W> {
@@ -191,6 +198,7 @@ impl<
             &mut self.shown,
             &mut self.full,
             &mut self.barred,
+            &mut self.notes,
             errors,
         );
         if let Turned::Well = turned {
@@ -209,6 +217,40 @@ impl<
     }
 }
 
+/// How many lines of requests that waited may be printed, and a buffer for one.
+#[derive(Debug, Drop)]
+struct AskedNotes {
+    limiter: Limiter,
+    line: String,
+}
+
+/// How many notes are told after a turn at most (our profile): as many as wait.
+const NOTES_MOST: usize = 64;
+
+/// Tells the watcher what came of the requests that waited.
+fn tell_notes<P, F, I, V: TellsAsked, W: Write, E: Write>(
+    port: &mut AskingPort<P, F, I>,
+    watcher: &mut V,
+    notes: &mut AskedNotes,
+    at: Moment,
+    writer: &mut W,
+    errors: &mut E,
+) {
+    for _ in 0..NOTES_MOST {
+        let Some(note) = port.asking_mut().take_note() else {
+            return;
+        };
+        watcher.tell_asked(
+            &note,
+            &mut notes.limiter,
+            &mut notes.line,
+            at,
+            writer,
+            errors,
+        );
+    }
+}
+
 /// A turn of a server that asks, and what it does between this turn and the next. What came of it is returned; where it went well, `shown`
 /// has the moment after it.
 fn take_asking<
@@ -218,7 +260,7 @@ fn take_asking<
     S: Store,
     C: Clock,
     D: Clock,
-    V: Watcher,
+    V: Watcher + TellsAsked,
     W: Write,
     E: Write,
 >(
@@ -236,6 +278,7 @@ fn take_asking<
     shown: &mut Shown,
     full: &mut FullNotes,
     barred: &mut BarredNotes,
+    notes: &mut AskedNotes,
     errors: &mut E,
 ) -> Turned {
     let sent = match turn_and_moment(port, clock, server, state, octets, reply, shown) {
@@ -252,6 +295,7 @@ fn take_asking<
     port.attend(server, octets.as_slice(), &mut shown.entry);
     port.tell_changes(errors);
     let at = shown.at;
+    tell_notes(port, watcher, notes, at, writer, errors);
     let is_full = full.tell(state, at, errors);
     barred.tell(state, is_full, at, errors);
     show(state, server, sent, shown, watcher, writer, errors);

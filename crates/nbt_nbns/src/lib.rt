@@ -4,6 +4,7 @@
 
 mod arguments;
 mod asking;
+mod asking_log;
 mod barring;
 mod checking;
 mod complaint;
@@ -36,6 +37,7 @@ mod unlocked;
 
 pub use arguments::{NbnsArguments, ServerArguments, StateFolder};
 pub use asking::{MachineIds, keep_asking};
+pub use asking_log::{TellsAsked, write_asked};
 pub use checking::{check_server, write_check};
 pub use content::Content;
 pub use first_line::{

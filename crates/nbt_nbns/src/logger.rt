@@ -81,6 +81,27 @@ impl Logger {
         }
     }
 
+    /// Prints a line of another kind, at once, and what waits of the lines before it, with the same care. Returns whether that was done.
+    pub fn log_line<W: Write, E: Write>(
+        &mut self,
+        line: &str,
+        writer: &mut W,
+        errors: &mut E,
+    ) -> bool {
+        match self.outbox.send(line, writer) {
+            Ok(()) => {
+                if self.outbox.is_empty() {
+                    self.complaint.end("the log", errors);
+                }
+                true
+            }
+            Err(error) => {
+                self.complaint.tell("the log", error, errors);
+                false
+            }
+        }
+    }
+
     /// Prints the line, where it may be printed.
     fn print_line<W: Write>(
         &mut self,

@@ -14,6 +14,7 @@ ghost use Rattle.nbt_serve.specs.declared.fault.KeepFault.TheVariants as fault;
 
 use crate::arguments::NbnsArguments;
 use crate::asking::{MachineIds, keep_asking};
+use crate::asking_log::TellsAsked;
 use crate::renewing::{NotesFixed, Renewable, keep_renewed};
 use crate::starting::{Started, start};
 use crate::staying::Watcher;
@@ -81,7 +82,7 @@ pub(crate) fn keep_over<
     S: Store + Drop,
     C: Clock + Drop,
     D: Clock + Drop,
-    V: Watcher + NotesFixed + Drop,
+    V: Watcher + NotesFixed + TellsAsked + Drop,
     R: FrontSource,
     M: Net + time::Clock + RandomSource + Files,
     W: Write,
@@ -191,7 +192,7 @@ fn ask_to_its_end<
     S: Store,
     C: Clock,
     D: Clock,
-    V: Watcher + NotesFixed,
+    V: Watcher + NotesFixed + TellsAsked,
     R: FrontSource,
     M: time::Clock,
     W: Write,

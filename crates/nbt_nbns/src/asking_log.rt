@@ -1,0 +1,157 @@
+//! What the log has of requests that waited.
+
+ghost use Rattle.std.specs.Prelude.{◌≡◌, ◌++◌, ℕ, List, OnOk};
+ghost use Rattle.std.specs.String.{string_bytes};
+ghost use Rattle.nbt_nbns.specs.AskingLog.{IsAskedLine, asked_verb, asked_end};
+
+use crate::journal::Journal;
+use nbt_asking::{Asked, Note};
+use nbt_lease::Moment;
+use nbt_log::{Limiter, write_time};
+use nbt_name::Kind;
+use nbt_text::{end_line, write_dotted, write_word};
+use std::alloc::AllocError;
+use std::io::Write;
+
+/// What watches a server that asks: it is told what came of each request that waited.
+pub trait TellsAsked {
+    /// This came of a request. What is printed of it goes to `writer`, and what can't be done about it is said in `errors`.
+    fn tell_asked<W: Write, E: Write>(
+        &mut self,
+        note: &Note,
+        limiter: &mut Limiter,
+        line: &mut String,
+        at: Moment,
+        writer: &mut W,
+        errors: &mut E,
+    );
+}
+
+impl<D, L> TellsAsked for Journal<D, L> {
+    fn tell_asked<W: Write, E: Write>(
+        &mut self,
+        note: &Note,
+        limiter: &mut Limiter,
+        line: &mut String,
+        at: Moment,
+        writer: &mut W,
+        errors: &mut E,
+    ) {
+        if !has_line(note.asked) {
+            return;
+        }
+        let second = self.dates.second_at(at.get());
+        let Some(logger) = &mut self.log else {
+            return;
+        };
+        let Some(left_out) = limiter.take(at) else {
+            return;
+        };
+        line.clear();
+        if write_asked(second, note, left_out, line).is_ok() {
+            logger.log_line(line.as_str(), writer, errors);
+        }
+    }
+}
+
+/// Whether there is a line of it: what the server grants has a line of its own, and so has what it refuses.
+fn has_line(asked: Asked) -> bool {
+    match asked {
+        Asked::Granted => false,
+        _ => true,
+    }
+}
+
+/// Appends the line of what came of a request, in a second since 1970: as `2026-11-24T09:12:03Z further NODEM#20 198.18.137.5 unique 60 s of
+/// 198.18.137.4`. It says how many such lines were left out before it, where some were.
+pub fn write_asked(
+    second: u64,
+    note: &Note,
+    left_out: u64,
+    out: &mut String,
+) -> Result<(), AllocError>
+    ensures { OnOk result ((line : List ℕ) × IsAskedLine second note.now left_out line × (string_bytes out.new ≡ string_bytes out.old ++ line)) }
+{
+    write_time(second, out)?;
+    out.push_str(verb_of(note.asked))?;
+    write_word(&note.name, out)?;
+    out.push_str(" ")?;
+    write_dotted(note.addr, out)?;
+    out.push_str(kind_of(note.kind))?;
+    write_seconds(note.seconds, out)?;
+    out.push_str(before_of(note.asked))?;
+    write_dotted(note.of, out)?;
+    out.push_str(after_of(note.asked))?;
+    write_left_out(left_out, out)
+}
+
+/// What came of it.
+fn verb_of(asked: Asked) -> &'static str
+    ensures { result.now ≡ asked_verb asked }
+{
+    match asked {
+        Asked::Waits => " asking about ",
+        Asked::Confirmed => " further ",
+        Asked::Reached => " listed ",
+        Asked::Refused => " refused ",
+        Asked::Told => " told to wait ",
+        Asked::Granted => " let in ",
+        Asked::NotOwn => " refused ",
+        Asked::Full => " refused ",
+        Asked::Released => " released ",
+        Asked::Unanswered => " not let in ",
+        Asked::Lost => " lost ",
+    }
+}
+
+/// What stands before the address that was asked.
+fn before_of(asked: Asked) -> &'static str {
+    match asked {
+        Asked::Waits => " of ",
+        Asked::Confirmed | Asked::Reached | Asked::Released => " of ",
+        Asked::Refused => ": another machine has it: ",
+        Asked::Told => " for the lease of ",
+        Asked::Granted => " by ",
+        Asked::NotOwn => ": not its own address: ",
+        Asked::Full => ": too many further addresses: ",
+        Asked::Unanswered => ": no answer of ",
+        Asked::Lost => ": too many wait: ",
+    }
+}
+
+/// What stands behind it: the RCODE of a refusal.
+fn after_of(asked: Asked) -> &'static str
+    ensures { result.now ≡ asked_end asked }
+{
+    match asked {
+        Asked::Refused => " (6)",
+        Asked::NotOwn => " (5)",
+        Asked::Full => " (2)",
+        _ => "",
+    }
+}
+
+/// The word of a kind.
+fn kind_of(kind: Kind) -> &'static str {
+    match kind {
+        Kind::Unique => " unique",
+        Kind::Group => " group",
+    }
+}
+
+/// Appends for how many seconds it is, as ` 60 s`; nothing where that says nothing.
+fn write_seconds(seconds: u32, out: &mut String) -> Result<(), AllocError> {
+    if seconds == 0 {
+        return Ok(());
+    }
+    write!(out, " {seconds} s")
+}
+
+/// Appends how many lines were left out, if any were, and the end of the line.
+fn write_left_out(left_out: u64, out: &mut String) -> Result<(), AllocError> {
+    if left_out == 0 {
+        end_line(out)
+    } else {
+        writeln!(out, ", {left_out} left out before")
+    }
+}
