@@ -7,7 +7,7 @@ use Rattle.nbt_name.specs.declared.addr.Addr.{Addr}
 use Rattle.nbt_name.specs.declared.addr.Kind.{Kind}
 use Rattle.nbt_name.specs.declared.addr.Kind.TheVariants.{Unique}
 use Rattle.nbt_packet.specs.declared.message.Registration.{Registration}
-use Rattle.nbt_packet.specs.Message.{IsRequest, opcode_of, registration, registered, released, found}
+use Rattle.nbt_packet.specs.Message.{IsRequest, opcode_of, registration, refresh, registered, released, found}
 use Rattle.nbt_packet.specs.Spelling.{Spells}
 use Rattle.nbt_packet.specs.Text.{text, entry, entries_most}
 use Rattle.nbt_port.specs.declared.port.Route.{Route}
@@ -44,11 +44,12 @@ unasked = 0
 
 -- ---- what comes
 
--- A datagram is looked at first: a response to a query, from the port of the name service, while an inquiry is under way; and a request of
--- OPCODE 15 that another port made a registration of.
+-- A datagram is looked at first: a response to a query, from the port of the name service, while an inquiry is under way; a request of OPCODE 15
+-- that another port made a registration of; and a refresh for another address than the one that sent it.
 pub data IsAside (pending : List Pending) (c : Came) (octets : List ℕ) : Type 0 where
   response : pending ≢ [] → ¬ IsRequest c.flags → c.from.port ≡ name_port → opcode_of c.flags ≡ 0 → IsAside pending c octets
   by_opcode : (r : Registration) → IsRequest c.flags → opcode_of c.flags ≡ multi_homed → Spells octets (registration r) → IsAside pending c octets
+  for_another : (r : Registration) → Spells octets (refresh r) → r.addr ≢ c.from.ip → IsAside pending c octets
 
 -- what is kept comes to the server, and is the last
 abbrev pub with_last : {P : Type 0} → Came → AskingPortValue P → AskingPortValue P

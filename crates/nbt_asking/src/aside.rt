@@ -11,6 +11,11 @@ use std::marker::Model;
 /// OPCODE of a multi-homed registration (our profile: RFC 1002 section 4.2.1.1 doesn't list it).
 const MULTI_HOMED: u16 = 15;
 
+/// OPCODEs of a refresh (RFC 1002 section 4.2.1.1, which has both).
+const REFRESH: u16 = 8;
+
+const REFRESH_TOO: u16 = 9;
+
 /// What became of a datagram that was set aside.
 #[derive(Clone, Copy, Debug, PartialEq, Eq)]
 enum Place {
@@ -99,17 +104,30 @@ impl Aside {
 }
 
 /// Whether a datagram with these flags is set aside: a response to a query, from the port of the name service, where an inquiry is
-/// under way; and what came as a request of OPCODE 15, and spells a registration now.
+/// under way; what came as a request of OPCODE 15, and spells a registration now; and a refresh for another address than the one that sent
+/// it, as it comes from behind a masquerade.
 pub(crate) fn is_aside(came: Came, octets: &[u8], is_asking: bool) -> bool {
     if came.flags >= 0x8000 {
         return is_asking && came.from.port == NAME_PORT && opcode_of(came.flags) == 0;
     }
-    opcode_of(came.flags) == MULTI_HOMED && is_registration(octets)
+    match opcode_of(came.flags) {
+        MULTI_HOMED => is_registration(octets),
+        REFRESH | REFRESH_TOO => is_refresh_for_another(came.from.ip, octets),
+        _ => false,
+    }
 }
 
 /// OPCODE of the flags (RFC 1002 section 4.2.1.1).
 fn opcode_of(flags: u16) -> u16 {
     flags / 0x800 % 16
+}
+
+/// Whether octets spell a refresh for another address than this.
+fn is_refresh_for_another(ip: u32, octets: &[u8]) -> bool {
+    match read(octets) {
+        Some(Message::Refresh(claim)) => claim.addr != ip,
+        _ => false,
+    }
 }
 
 /// Whether octets spell a registration.

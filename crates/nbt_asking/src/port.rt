@@ -164,7 +164,7 @@ impl<P: Port + TellsFlags, C: Clock, I: Ids> AskingPort<P, C, I> {
             }
             return;
         }
-        let Some(claim) = registration_in(self.aside.octets()) else {
+        let Some(claim) = claim_in(self.aside.octets()) else {
             self.aside.come_back();
             return;
         };
@@ -400,14 +400,6 @@ fn is_refused(entry: &Option<Entry>) -> bool {
 /// The later of two times.
 fn later(one: Moment, other: Moment) -> Moment {
     if one.get() < other.get() { other } else { one }
-}
-
-/// The registration that the octets spell, if they spell one.
-fn registration_in(octets: &[u8]) -> Option<Registration<'_>> {
-    match read(octets)? {
-        Message::Registration(claim) => Some(claim),
-        _ => None,
-    }
 }
 
 /// The registration or refresh that the octets spell, if they spell one.
