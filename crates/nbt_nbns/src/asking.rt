@@ -1,6 +1,12 @@
 //! A server that stays up, and asks machines for their addresses between its turns.
 
-ghost use Rattle.std.specs.Prelude.{◌≡◌, ℕ, List, Option};
+ghost use Rattle.std.specs.Prelude.{◌≡◌, ℕ, List, Option, OnOk, IfErr};
+ghost use Rattle.nbt_port.specs.Numbers.{forever};
+ghost use Rattle.nbt_port.specs.Staying.{StaysUntil, EndsEarly, Takes};
+ghost use Rattle.nbt_serve.specs.declared.fault.KeepFault.TheVariants as fault;
+ghost use Rattle.nbt_asking.specs.Port.{AskingDoes};
+ghost use Rattle.nbt_nbns.specs.Asking.{AsksBefore, AsksLast, AsksOn, CutsAsking};
+ghost use Rattle.nbt_nbns.specs.Staying.{BreaksStaying, HasRoom};
 
 use crate::asking_log::TellsAsked;
 use crate::barring::BarredNotes;
@@ -97,7 +103,15 @@ pub fn keep_asking<
     machine: &M,
     writer: &mut W,
     errors: &mut E,
-) -> Result<(), Fault> {
+) -> Result<(), Fault>
+    requires room { HasRoom state.old }
+    ensures ok { OnOk result (StaysUntil (AsksOn P.does P.failures P.renews S.does C.tells D.tells V.sees V.hears V.notes until) (BreaksStaying (AskingDoes P.does) S.does C.tells fault.Port) (AsksLast P.does P.failures S.does C.tells D.tells V.sees V.hears until) forever
+        (record { served = record { port = port.old; clock = clock.old; server = server.old; state = state.old }; day = day.old; watcher = watcher.old; text = W.contents writer.old })
+        (record { served = record { port = port.new; clock = clock.new; server = server.new; state = state.new }; day = day.new; watcher = watcher.new; text = W.contents writer.new })) }
+    ensures err { IfErr result (λ why. EndsEarly (AsksOn P.does P.failures P.renews S.does C.tells D.tells V.sees V.hears V.notes until) (BreaksStaying (AskingDoes P.does) S.does C.tells fault.Port) (CutsAsking P.does P.failures S.does C.tells D.tells V.sees V.hears) forever why
+        (record { served = record { port = port.old; clock = clock.old; server = server.old; state = state.old }; day = day.old; watcher = watcher.old; text = W.contents writer.old })
+        (record { served = record { port = port.new; clock = clock.new; server = server.new; state = state.new }; day = day.new; watcher = watcher.new; text = W.contents writer.new })) }
+{
     let mut rows = Vec::new(alloc);
     let shown = shown_at_first(port, server, state);
     let mut turn = AskingTurn {
@@ -174,13 +188,13 @@ impl<
 
     ghost fixed = { λ t. (t.until, t.port.ghost_name ∷ t.clock.ghost_name ∷ t.server.ghost_name ∷ t.kept.ghost_name ∷ t.day.ghost_name ∷ t.watcher.ghost_name ∷ t.source.ghost_name ∷ t.writer.ghost_name ∷ []) };
 
-    ghost turns = { λ f. AsksOn P.does P.failures P.renews S.does C.tells D.tells V.sees V.notes f.0 };
+    ghost turns = { λ f. AsksOn P.does P.failures P.renews S.does C.tells D.tells V.sees V.hears V.notes f.0 };
 
     ghost breaks = { λ _. BreaksStaying (AskingDoes P.does) S.does C.tells fault.Port };
 
-    ghost last = { λ f. AsksLast P.does P.failures S.does C.tells D.tells V.sees f.0 };
+    ghost last = { λ f. AsksLast P.does P.failures S.does C.tells D.tells V.sees V.hears f.0 };
 
-    ghost cuts = { λ _. CutsAsking P.does P.failures S.does C.tells D.tells V.sees };
+    ghost cuts = { λ _. CutsAsking P.does P.failures S.does C.tells D.tells V.sees V.hears };
 
     fn take<E: Write>(&mut self, errors: &mut E) -> Turned {
         let turned = take_asking(
@@ -280,7 +294,13 @@ fn take_asking<
     barred: &mut BarredNotes,
     notes: &mut AskedNotes,
     errors: &mut E,
-) -> Turned {
+) -> Turned
+    requires room { HasRoom state.old }
+    ensures takes { Takes (AsksBefore P.does P.failures S.does C.tells D.tells V.sees V.hears until.now) (BreaksStaying (AskingDoes P.does) S.does C.tells fault.Port) (AsksLast P.does P.failures S.does C.tells D.tells V.sees V.hears until.now) (CutsAsking P.does P.failures S.does C.tells D.tells V.sees V.hears) result
+        (record { served = record { port = port.old; clock = clock.old; server = server.old; state = state.old }; day = day.old; watcher = watcher.old; text = W.contents writer.old })
+        (record { served = record { port = port.new; clock = clock.new; server = server.new; state = state.new }; day = day.new; watcher = watcher.new; text = W.contents writer.new }) }
+    ensures room { HasRoom state.new }
+{
     let sent = match turn_and_moment(port, clock, server, state, octets, reply, shown) {
         Ok(sent) => sent,
         Err(KeepFault::Port) => {

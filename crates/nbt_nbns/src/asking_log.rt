@@ -1,6 +1,6 @@
 //! What the log has of requests that waited.
 
-ghost use Rattle.std.specs.Prelude.{◌≡◌, ◌++◌, ℕ, List, OnOk};
+ghost use Rattle.std.specs.Prelude.{◌≡◌, ◌++◌, ℕ, List, Option, OnOk};
 ghost use Rattle.std.specs.String.{string_bytes};
 ghost use Rattle.nbt_nbns.specs.AskingLog.{IsAskedLine, asked_verb, asked_end};
 
@@ -15,6 +15,11 @@ use std::io::Write;
 
 /// What watches a server that asks: it is told what came of each request that waited.
 pub trait TellsAsked {
+    ghost use Rattle.nbt_asking.specs.declared.tally.Note.{Note};
+
+    /// What that is: the watcher before, what came of the request, what was printed before, the watcher afterwards, and what is printed then.
+    ghost hears: { Self → Note → Option (List ℕ) → Self → Option (List ℕ) → Type 0 };
+
     /// This came of a request. What is printed of it goes to `writer`, and what can't be done about it is said in `errors`.
     fn tell_asked<W: Write, E: Write>(
         &mut self,
@@ -24,10 +29,15 @@ pub trait TellsAsked {
         at: Moment,
         writer: &mut W,
         errors: &mut E,
-    );
+    )
+        ensures { hears self.old note.now (W.contents writer.old) self.new (W.contents writer.new) };
 }
 
 impl<D, L> TellsAsked for Journal<D, L> {
+    ghost use Rattle.nbt_nbns.specs.Asking.{HearsNote};
+
+    ghost hears = { HearsNote };
+
     fn tell_asked<W: Write, E: Write>(
         &mut self,
         note: &Note,
