@@ -2,3 +2,4 @@ pub mod Inner
 pub mod Asking
 pub mod Port
 pub mod Attending
+pub mod Laws

@@ -11,6 +11,7 @@ mod aside;
 mod asking;
 mod flags;
 mod ids;
+pub mod laws;
 mod listing;
 mod port;
 mod replies;
