@@ -1,8 +1,9 @@
 -- What a server has beside its leases that asks machines which addresses they have (our profile).
-use Rattle.std.specs.Prelude.{◌≡◌, ℕ, List, []}
+use Rattle.std.specs.Prelude.{ℕ, Bool, true, false, List, [], ◌∷◌}
 use Rattle.nbt_confirm.specs.declared.further.Further.{Further}
 use Rattle.nbt_confirm.specs.declared.request.Came.{Came}
 use Rattle.nbt_confirm.specs.declared.request.Request.{Request}
+use Rattle.nbt_confirm.specs.declared.waits.Pending.{Pending}
 use Rattle.nbt_confirm.specs.Waiting.{WaitsValue}
 use Rattle.nbt_packet.specs.declared.message.Registration.{Registration}
 
@@ -19,6 +20,11 @@ pub record AskingValue : Type 0 where
   pub further : List Further
   pub granted : List Request
   pub rows_per_client : ℕ
+
+-- an inquiry is under way
+abbrev pub any_under_way : List Pending → Bool
+any_under_way [] = false
+any_under_way (p ∷ pending) = true
 
 -- nothing waits, and nothing is confirmed
 abbrev pub asks_nothing : (rows_per_client : ℕ) → AskingValue

@@ -220,17 +220,19 @@ module _ {P : Type 0} (table : TableValue) (now : ℕ) where
 abbrev pub TriesToSend : {P : Type 0} → (P → PortCall → P → Type 0) → P → DatagramValue → P → Type 0
 TriesToSend does old d new = does old (sent d.route d.octets) new ⊎ does old (send_failed d.route d.octets) new
 
+-- Some such things, one after the other, and all that leaves is sent.
+pub record Goes {P : Type 0} (does : P → PortCall → P → Type 0) (table : TableValue) (now : ℕ) (turned : Option Turned) (old new : AskingPortValue P) : Type 0 where
+  pub sends : List (List DatagramValue)
+  pub last : AskingPortValue P
+  pub steps : Chain (Does table now turned) old sends last
+  pub port_did : Chain (TriesToSend does) old.port (flat_map (λ s. s) sends) new.port
+  pub new_is : new ≡ record last { port = new.port }
+
 -- the turn of an entry, where a datagram came to the server
 abbrev pub turned_by : Came → (octets : List ℕ) → Option Entry → Option Turned
 turned_by c octets None = None
 turned_by c octets (Some entry) = Some (record { came = record c { from = entry.from }; octets = octets; outcome = entry.outcome })
 
--- Between two turns: some such things, at a moment that isn't before the server's last, and all that leaves is sent.
-pub record Attends {P : Type 0} (does : P → PortCall → P → Type 0) (server : ServerValue) (octets : List ℕ) (entry : Option Entry) (old new : AskingPortValue P) : Type 0 where
-  pub now : ℕ
-  pub goes_on : server.last ≤ now
-  pub sends : List (List DatagramValue)
-  pub last : AskingPortValue P
-  pub steps : Chain (Does server.table now (turned_by old.last octets entry)) old sends last
-  pub port_did : Chain (TriesToSend does) old.port (flat_map (λ s. s) sends) new.port
-  pub new_is : new ≡ record last { port = new.port }
+-- Between two turns, at a moment that isn't before the server's last.
+abbrev pub Attends : {P : Type 0} → (does : P → PortCall → P → Type 0) → ServerValue → (octets : List ℕ) → Option Entry → (old new : AskingPortValue P) → Type 0
+Attends does server octets entry old new = (now : ℕ) × (server.last ≤ now) × Goes does server.table now (turned_by old.last octets entry) old new

@@ -1,5 +1,5 @@
 -- What a port hands on of what comes beneath it, and what leaves of the replies (our profile).
-use Rattle.std.specs.Prelude.{◌≡◌, ◌≢◌, ℕ, ◌-◌, nat_lt, nat_eq, Bool, true, ◌&&◌, List, [], ◌∷◌, ◌++◌, take, map, length, Option, Some, None}
+use Rattle.std.specs.Prelude.{◌≡◌, ◌≢◌, ◌⊎◌, ℕ, ◌-◌, nat_lt, nat_eq, Bool, true, ◌&&◌, List, [], ◌∷◌, ◌++◌, take, map, length, Option, Some, None}
 use Rattle.std.specs.List.{flat_map, list_any}
 use Rattle.nbt_name.specs.Wire.{NameValue}
 use Rattle.nbt_name.specs.Words.{word_at}
@@ -17,10 +17,9 @@ use Rattle.nbt_serve.specs.Samba.{multi_homed}
 use Rattle.nbt_confirm.specs.declared.further.Further.{Further}
 use Rattle.nbt_confirm.specs.declared.request.Came.{Came}
 use Rattle.nbt_confirm.specs.declared.request.Request.{Request}
-use Rattle.nbt_confirm.specs.declared.waits.Pending.{Pending}
 use Rattle.nbt_confirm.specs.Further.{is_at, listed_at, without}
 use Rattle.nbt_confirm.specs.Inquiries.{name_port}
-use Rattle.nbt_asking.specs.Asking.{AskingValue, Kept, nothing, aside, back, claim_of, came_of}
+use Rattle.nbt_asking.specs.Asking.{AskingValue, Kept, nothing, aside, back, any_under_way, claim_of, came_of}
 
 -- A port beneath, and what is kept from the server; how the datagram came that the server was handed last; and to whom the reply
 -- doesn't leave, since nobody sent the request.
@@ -46,14 +45,10 @@ unasked = 0
 
 -- A datagram is looked at first: a response to a query, from the port of the name service, while an inquiry is under way; a request of OPCODE 15
 -- that another port made a registration of; and a refresh for another address than the one that sent it.
-pub data IsAside (pending : List Pending) (c : Came) (octets : List ℕ) : Type 0 where
-  response : pending ≢ [] → ¬ IsRequest c.flags → c.from.port ≡ name_port → opcode_of c.flags ≡ 0 → IsAside pending c octets
-  by_opcode : (r : Registration) → IsRequest c.flags → opcode_of c.flags ≡ multi_homed → Spells octets (registration r) → IsAside pending c octets
-  for_another : (r : Registration) → Spells octets (refresh r) → r.addr ≢ c.from.ip → IsAside pending c octets
-
--- what is kept comes to the server, and is the last
-abbrev pub with_last : {P : Type 0} → Came → AskingPortValue P → AskingPortValue P
-with_last c old = record old { last = c }
+pub data IsAside (is_asking : Bool) (c : Came) (octets : List ℕ) : Type 0 where
+  response : is_asking ≡ true → ¬ IsRequest c.flags → c.from.port ≡ name_port → opcode_of c.flags ≡ 0 → IsAside is_asking c octets
+  by_opcode : (r : Registration) → IsRequest c.flags → opcode_of c.flags ≡ multi_homed → Spells octets (registration r) → IsAside is_asking c octets
+  for_another : (r : Registration) → IsRequest c.flags → (opcode_of c.flags ≡ 8) ⊎ (opcode_of c.flags ≡ 9) → Spells octets (refresh r) → r.addr ≢ c.from.ip → IsAside is_asking c octets
 
 -- nobody is to have the reply where nobody sent the request
 abbrev pub quiet_by : Came → Option Addr → Option Addr
@@ -92,9 +87,9 @@ pub data AskingDoes {P : Type 0} (does : P → PortCall → P → Type 0) (old :
   comes_back : (c : Came) (octets : List ℕ) → old.kept ≡ back c octets → AskingDoes does old (came (route_of c) octets) (record old { kept = nothing; last = c; quiet = quiet_by c old.quiet })
   is_granted : (r : Request) (others : List Request) → ¬ IsBack old.kept → old.asking.granted ≡ r ∷ others
       → AskingDoes does old (came (route_of (came_of r)) (text (registration (claim_of r)))) (record old { asking = record old.asking { granted = others }; last = came_of r; quiet = quiet_by (came_of r) old.quiet })
-  hands_on : (from : Route) (flags : ℕ) (octets : List ℕ) (port : P) → ¬ IsBack old.kept → does old.port (came from octets) port → ¬ IsAside old.asking.waits.pending (came_by from flags) octets
+  hands_on : (from : Route) (flags : ℕ) (octets : List ℕ) (port : P) → ¬ IsBack old.kept → does old.port (came from octets) port → ¬ IsAside (any_under_way old.asking.waits.pending) (came_by from flags) octets
       → AskingDoes does old (came from octets) (record old { port = port; last = came_by from flags })
-  sets_aside : (from : Route) (flags : ℕ) (octets : List ℕ) (port : P) → ¬ IsBack old.kept → does old.port (came from octets) port → IsAside old.asking.waits.pending (came_by from flags) octets
+  sets_aside : (from : Route) (flags : ℕ) (octets : List ℕ) (port : P) → ¬ IsBack old.kept → does old.port (came from octets) port → IsAside (any_under_way old.asking.waits.pending) (came_by from flags) octets
       → AskingDoes does old nothing_came (record old { port = port; kept = aside (came_by from flags) octets })
   waits : (port : P) → ¬ IsBack old.kept → does old.port nothing_came port → AskingDoes does old nothing_came (record old { port = port })
   fails : (port : P) → ¬ IsBack old.kept → does old.port receive_failed port → AskingDoes does old receive_failed (record old { port = port })

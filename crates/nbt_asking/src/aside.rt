@@ -1,6 +1,13 @@
 //! A datagram that is kept from the server.
 
-ghost use Rattle.std.specs.Prelude.{◌≡◌, ◌∷◌, ◌++◌};
+ghost use Rattle.std.specs.Prelude.{◌≡◌, ◌≢◌, ◌↔◌, ◌≤◌, ℕ, List, IfNone, IfSome, IsTrue, length};
+ghost use Rattle.nbt_packet.specs.declared.message.Registration.{Registration as Claimed};
+ghost use Rattle.nbt_packet.specs.Message.{opcode_of, refresh, registration};
+ghost use Rattle.nbt_packet.specs.Spelling.{Spells};
+ghost use Rattle.nbt_confirm.specs.declared.request.Came.{Came as Ways};
+ghost use Rattle.nbt_asking.specs.Asking.{aside, back, nothing};
+ghost use Rattle.nbt_asking.specs.Port.{IsAside, IsBack};
+ghost use Rattle.nbt_asking.specs.Inner.Placing.{IsLookedAt};
 
 use arrayvec::ArrayVec;
 use nbt_confirm::{Came, NAME_PORT};
@@ -46,7 +53,9 @@ impl Model for Aside {
 
 impl Aside {
     /// None yet.
-    pub fn new() -> Aside {
+    pub fn new() -> Aside
+        ensures { result ≡ nothing }
+    {
         Aside {
             place: Place::Nowhere,
             came: Came {
@@ -59,22 +68,31 @@ impl Aside {
     }
 
     /// Whether one waits to be looked at.
-    pub fn is_there(&self) -> bool {
+    pub fn is_there(&self) -> bool
+        ensures { IsTrue result ↔ IsLookedAt self.now }
+    {
         self.place == Place::Aside
     }
 
     /// How it came.
-    pub fn came(&self) -> Came {
+    pub fn came(&self) -> Came
+        ensures { (came : Ways) (octets : List ℕ) → self.now ≡ aside came octets → result ≡ came }
+    {
         self.came
     }
 
     /// Its octets.
-    pub fn octets(&self) -> &[u8] {
+    pub fn octets(&self) -> &[u8]
+        ensures { (came : Ways) (octets : List ℕ) → self.now ≡ aside came octets → result.now ≡ octets }
+    {
         self.octets.as_slice()
     }
 
     /// Sets these octets aside, which came so.
-    pub fn put(&mut self, came: Came, octets: &[u8]) {
+    pub fn put(&mut self, came: Came, octets: &[u8])
+        requires { length octets.now ≤ 2048 }
+        ensures { self.new ≡ aside came octets.now }
+    {
         self.place = Place::Aside;
         self.came = came;
         self.octets.clear();
@@ -82,17 +100,24 @@ impl Aside {
     }
 
     /// It is looked at, and comes to nobody.
-    pub fn drop(&mut self) {
+    pub fn let_go(&mut self)
+        ensures { self.new ≡ nothing }
+    {
         self.place = Place::Nowhere;
     }
 
     /// It is looked at, and comes to the server next.
-    pub fn come_back(&mut self) {
+    pub fn come_back(&mut self)
+        ensures { (came : Ways) (octets : List ℕ) → self.old ≡ aside came octets → self.new ≡ back came octets }
+    {
         self.place = Place::Back;
     }
 
     /// Leaves in `octets` what is to come to the server, and returns how it came; `None`, with `octets` as they were, if there is none.
-    pub fn take_back(&mut self, octets: &mut ArrayVec<u8, 2048>) -> Option<Came> {
+    pub fn take_back(&mut self, octets: &mut ArrayVec<u8, 2048>) -> Option<Came>
+        ensures back { IfSome result (λ came. (self.old ≡ back came octets.new.items) × (self.new ≡ nothing)) }
+        ensures none { IfNone result ((¬ IsBack self.old) × (self.new ≡ self.old) × (octets.new.items ≡ octets.old.items)) }
+    {
         if self.place != Place::Back {
             return None;
         }
@@ -106,7 +131,9 @@ impl Aside {
 /// Whether a datagram with these flags is set aside: a response to a query, from the port of the name service, where an inquiry is
 /// under way; what came as a request of OPCODE 15, and spells a registration now; and a refresh for another address than the one that sent
 /// it, as it comes from behind a masquerade.
-pub(crate) fn is_aside(came: Came, octets: &[u8], is_asking: bool) -> bool {
+pub(crate) fn is_aside(came: Came, octets: &[u8], is_asking: bool) -> bool
+    ensures { IsTrue result ↔ IsAside is_asking came octets.now }
+{
     if came.flags >= 0x8000 {
         return is_asking && came.from.port == NAME_PORT && opcode_of(came.flags) == 0;
     }
@@ -118,12 +145,16 @@ pub(crate) fn is_aside(came: Came, octets: &[u8], is_asking: bool) -> bool {
 }
 
 /// OPCODE of the flags (RFC 1002 section 4.2.1.1).
-fn opcode_of(flags: u16) -> u16 {
+fn opcode_of(flags: u16) -> u16
+    ensures { result ≡ opcode_of flags }
+{
     flags / 0x800 % 16
 }
 
 /// Whether octets spell a refresh for another address than this.
-fn is_refresh_for_another(ip: u32, octets: &[u8]) -> bool {
+fn is_refresh_for_another(ip: u32, octets: &[u8]) -> bool
+    ensures { IsTrue result ↔ ((r : Claimed) × Spells octets.now (refresh r) × (r.addr ≢ ip)) }
+{
     match read(octets) {
         Some(Message::Refresh(claim)) => claim.addr != ip,
         _ => false,
@@ -131,6 +162,8 @@ fn is_refresh_for_another(ip: u32, octets: &[u8]) -> bool {
 }
 
 /// Whether octets spell a registration.
-fn is_registration(octets: &[u8]) -> bool {
+fn is_registration(octets: &[u8]) -> bool
+    ensures { IsTrue result ↔ ((r : Claimed) × Spells octets.now (registration r)) }
+{
     matches!(read(octets), Some(Message::Registration(_)))
 }

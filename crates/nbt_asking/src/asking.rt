@@ -10,7 +10,7 @@ ghost use Rattle.nbt_name.specs.declared.addr.Kind.TheVariants.{Unique};
 ghost use Rattle.nbt_server.specs.Serving.{seconds_until};
 ghost use Rattle.nbt_confirm.specs.Further.{is_at, is_next, without};
 ghost use Rattle.nbt_confirm.specs.declared.outcome.Outcome.TheVariants.{AwaitLeaseEnd, Further as FurtherOutcome};
-ghost use Rattle.nbt_asking.specs.Asking.{asks_nothing};
+ghost use Rattle.nbt_asking.specs.Asking.{any_under_way, asks_nothing};
 ghost use Rattle.nbt_asking.specs.Attending.{Accepts, ConfirmsIt, FollowsFirst, Holds, IsFull, IsLeasedUntil, PassesOn, Settles, SettlesBy, Wakes, granting, is_over, replied, reply, until_of, waiting};
 ghost use Rattle.nbt_asking.specs.Inner.Parts.{TakesGranted, sends_of};
 
@@ -115,7 +115,7 @@ impl Asking {
 
     /// Whether an inquiry is under way.
     pub(crate) fn is_asking(&self) -> bool
-        ensures { IsTrue result ↔ (self.now.waits.pending ≢ []) }
+        ensures { result ≡ any_under_way self.now.waits.pending }
     {
         !self.waits.pending().is_empty()
     }

@@ -1,6 +1,16 @@
 //! Replies on their way out: those that name further addresses, and those that don't leave.
 
-ghost use Rattle.std.specs.Prelude.{◌≡◌, ◌≤◌, length};
+ghost use Rattle.std.specs.Prelude.{◌≡◌, ◌≢◌, ◌<◌, ◌≤◌, ◌-◌, ◌++◌, ℕ, [], Some, IfSome, IsTrue, length, nat_lt, take};
+ghost use Rattle.std.specs.List.{flat_map};
+ghost use Rattle.nbt_name.specs.declared.addr.Kind.TheVariants.{Unique};
+ghost use Rattle.nbt_packet.specs.declared.message.Registration.{Registration as Claimed};
+ghost use Rattle.nbt_packet.specs.Message.{registered, released};
+ghost use Rattle.nbt_packet.specs.Spelling.{Spells};
+ghost use Rattle.nbt_packet.specs.Text.{entry, text};
+ghost use Rattle.nbt_port.specs.declared.port.Route.{Route};
+ghost use Rattle.nbt_server.specs.Serving.{active_error};
+ghost use Rattle.nbt_confirm.specs.Further.{listed_at, name_most};
+ghost use Rattle.nbt_asking.specs.Port.{LeavesAs};
 
 use arrayvec::ArrayVec;
 use nbt_confirm::{FurtherAddresses, NAME_MOST};
@@ -57,51 +67,65 @@ pub(crate) fn kind_of(octets: &[u8]) -> ReplyKind {
     }
 }
 
-/// Whether they refuse a unique name.
-pub(crate) fn is_of_unique(octets: &[u8]) -> bool {
+/// Whether they refuse a unique name, since another has it.
+pub(crate) fn refuses_unique(octets: &[u8]) -> bool
+    ensures { IsTrue result → (r : Claimed) × Spells octets.now (registered active_error r) × (r.kind ≡ Unique) }
+{
     match read(octets) {
-        Some(Message::Registered { registration, .. }) => registration.kind == Kind::Unique,
+        Some(
+            Message::Registered {
+                rcode: ACTIVE,
+                registration,
+            },
+        ) => registration.kind == Kind::Unique,
         _ => false,
     }
 }
 
-/// Of which name and address they refuse the release, if they do.
-pub(crate) fn release_in(octets: &[u8]) -> Option<(Name, u32)> {
+/// A release that was refused.
+#[derive(Debug, Drop)]
+pub(crate) struct Release {
+    id: u16,
+    /// The name.
+    pub name: Name,
+    kind: Kind,
+    /// The 32-bit address that it is for.
+    pub addr: u32,
+}
+
+/// The release that octets refuse, since another has the name, if they refuse one.
+pub(crate) fn release_in(octets: &[u8]) -> Option<Release>
+    ensures { IfSome result (λ r. Spells octets.now (released r.id active_error r.name r.kind r.addr)) }
+{
     match read(octets)? {
         Message::Released {
+            id,
             rcode: ACTIVE,
             name,
+            kind,
             addr,
-            ..
-        } => Some((name.to_name(), addr)),
+        } => Some(Release {
+            id,
+            name: name.to_name(),
+            kind,
+            addr,
+        }),
         _ => None,
     }
 }
 
-/// Leaves in `out` the positive response to the release that these octets refuse. Returns whether they do.
-pub(crate) fn write_released(octets: &[u8], out: &mut ArrayVec<u8, 576>) -> bool {
-    match read(octets) {
-        Some(
-            Message::Released {
-                id,
-                name,
-                kind,
-                addr,
-                ..
-            },
-        ) => {
-            let reply = Message::Released {
-                id,
-                rcode: 0,
-                name,
-                kind,
-                addr,
-            };
-            write(&reply, out);
-            true
-        }
-        _ => false,
-    }
+/// Leaves in `out` the positive response to a release (RFC 1002 section 4.2.10), and nothing else.
+pub(crate) fn write_released(release: &Release, out: &mut ArrayVec<u8, 576>)
+    ensures { out.new.items ≡ text (released release.now.id 0 release.now.name release.now.kind release.now.addr) }
+{
+    let reply = Message::Released {
+        id: release.id,
+        rcode: 0,
+        name: release.name.lend(),
+        kind: release.kind,
+        addr: release.addr,
+    };
+    write(&reply, out);
 }
 
 /// Leaves in `out` the reply that these octets are, with the further addresses of the machine behind the holder's, as many as fit; its id,
@@ -150,7 +174,9 @@ fn list_of(
     name: &Name,
     entries: &[u8],
     listed: &mut ArrayVec<u32, NAME_MOST>,
-) -> bool {
+) -> bool
+    ensures { IsTrue result → (holder : ℕ) × (entries.now ≡ entry Unique holder) × (listed.new.items ≡ take name_most (listed_at now name.now holder further.now)) × (listed.new.items ≢ []) }
+{
     if entries.len() != ENTRY || entries[0] >= 0x80 {
         return false;
     }
@@ -164,7 +190,12 @@ fn put_entries(
     addrs: &[u32],
     most: usize,
     out: &mut ArrayVec<u8, ENTRIES_OCTETS>,
-) -> bool {
+) -> bool
+    requires empty { out.old.items ≡ [] }
+    requires room { 0 < most × (most ≤ 86) × (length first.now ≡ 6) }
+    ensures entries { out.new.items ≡ first.now ++ flat_map (λ addr. entry Unique addr) (take (most - 1) addrs.now) }
+    ensures cut { result ≡ nat_lt (length (take (most - 1) addrs.now)) (length addrs.now) }
+{
     let _ = out.try_extend_from_slice(first);
     let mut room = most.saturating_sub(1);
     for addr in addrs {

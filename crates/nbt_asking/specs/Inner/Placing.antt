@@ -9,3 +9,8 @@ abbrev pub kept_of : Place → Came → (octets : List ℕ) → Kept
 kept_of at.Nowhere c octets = nothing
 kept_of at.Aside c octets = aside c octets
 kept_of at.Back c octets = back c octets
+
+-- it waits to be looked at
+abbrev pub IsLookedAt : Kept → Type 0
+IsLookedAt (aside c octets) = Unit {0}
+IsLookedAt kept = ⊥
