@@ -99,3 +99,7 @@ pub data AskingDoes {P : Type 0} (does : P → PortCall → P → Type 0) (old :
       → AskingDoes does old (sent to octets) (record old { port = port; asking = record old.asking { further = further } })
   can_not_leave : (now : ℕ) (to : Route) (octets out : List ℕ) (further : List Further) (port : P) → LeavesAs old.asking.further now to octets (Some out) further → does old.port (send_failed to out) port
       → AskingDoes does old (send_failed to octets) (record old { port = port; asking = record old.asking { further = further } })
+
+-- nothing is kept from the server yet
+abbrev pub asking_port : {P : Type 0} → P → AskingValue → AskingPortValue P
+asking_port port asking = record { port = port; asking = asking; kept = nothing; last = record { from = record { ip = 0; port = 0 }; local = None; flags = 0 }; quiet = None }

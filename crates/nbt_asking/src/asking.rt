@@ -8,7 +8,10 @@ ghost use Rattle.nbt_lease.specs.Lease.{leases_at};
 ghost use Rattle.nbt_lease.specs.declared.config.TheConstants.{LONGEST_MOST};
 ghost use Rattle.nbt_name.specs.declared.addr.Kind.TheVariants.{Unique};
 ghost use Rattle.nbt_server.specs.Serving.{seconds_until};
+ghost use Rattle.nbt_confirm.specs.declared.outcome.Answer.TheVariants.{Silent};
+ghost use Rattle.nbt_confirm.specs.Firsts.{with_first, without_first};
 ghost use Rattle.nbt_confirm.specs.Further.{is_at, is_next, without};
+ghost use Rattle.nbt_confirm.specs.Waiting.{Hears, Sends, answer_of, inquiry_in, is_for, is_to_repeat, is_unanswered, next_begun, repeated, served_by, with_begun};
 ghost use Rattle.nbt_confirm.specs.declared.outcome.Outcome.TheVariants.{AwaitLeaseEnd, Further as FurtherOutcome};
 ghost use Rattle.nbt_asking.specs.Asking.{any_under_way, asks_nothing};
 ghost use Rattle.nbt_asking.specs.Attending.{Accepts, ConfirmsIt, FollowsFirst, Holds, IsFull, IsLeasedUntil, PassesOn, Settles, SettlesBy, Wakes, granting, is_over, replied, reply, until_of, waiting};
@@ -89,9 +92,54 @@ impl Asking {
         &self.waits
     }
 
-    /// The same, to be begun, repeated and heard.
-    pub(crate) fn waits_mut(&mut self) -> &mut Waits {
-        &mut self.waits
+    /// The machine that these octets confirm, as [`Waits::hear`] has it.
+    pub(crate) fn hear(&mut self, from: Addr, octets: &[u8]) -> Option<Machine>
+        ensures pending { Hears from octets.now self.old.waits.pending result self.new.waits.pending }
+        ensures others { self.new ≡ record self.old { waits = record self.old.waits { pending = self.new.waits.pending } } }
+    {
+        self.waits.hear(from, octets)
+    }
+
+    /// The first request that waits for what this machine said, which waits no longer.
+    pub(crate) fn serve(&mut self, machine: &Machine) -> Option<Served>
+        ensures served { result ≡ option_map (served_by (answer_of machine.now)) (find (is_for machine.now.name machine.now.kind machine.now.asked) self.old.waits.requests) }
+        ensures others { self.new ≡ record self.old { waits = record self.old.waits { requests = without_first (is_for machine.now.name machine.now.kind machine.now.asked) self.old.waits.requests } } }
+    {
+        self.waits.serve(machine)
+    }
+
+    /// The first inquiry of which all queries are over, and none was answered. It ends.
+    pub(crate) fn give_up(&mut self, now: Moment) -> Option<Silence>
+        ensures silence { result ≡ inquiry_in (find (is_unanswered now) self.old.waits.pending) }
+        ensures others { self.new ≡ record self.old { waits = record self.old.waits { pending = without_first (is_unanswered now) self.old.waits.pending } } }
+    {
+        self.waits.give_up(now)
+    }
+
+    /// The first request that waits for one who didn't answer, which waits no longer.
+    pub(crate) fn serve_silence(&mut self, silence: &Silence) -> Option<Served>
+        ensures served { result ≡ option_map (served_by (λ _. Silent)) (find (is_for silence.now.name silence.now.kind silence.now.asked) self.old.waits.requests) }
+        ensures others { self.new ≡ record self.old { waits = record self.old.waits { requests = without_first (is_for silence.now.name silence.now.kind silence.now.asked) self.old.waits.requests } } }
+    {
+        self.waits.serve_silence(silence)
+    }
+
+    /// Repeats the first query that is due, as [`Waits::repeat`] has it.
+    pub(crate) fn repeat(&mut self, now: Moment, out: &mut ArrayVec<u8, 576>) -> Option<Way>
+        ensures sends { Sends (inquiry_in (find (is_to_repeat now) self.old.waits.pending)) result out.new.items }
+        ensures others { self.new ≡ record self.old { waits = record self.old.waits { pending = with_first (is_to_repeat now) (repeated now) self.old.waits.pending } } }
+    {
+        self.waits.repeat(now, out)
+    }
+
+    /// Begins the next inquiry with this id, as [`Waits::begin`] has it.
+    pub(crate) fn begin(&mut self, now: Moment, id: u16, out: &mut ArrayVec<u8, 576>) -> Option<Way>
+        ensures sends { Sends (inquiry_in (next_begun now id self.old.waits)) result out.new.items }
+        ensures others { self.new ≡ record self.old { waits = record self.old.waits { pending = with_begun (next_begun now id self.old.waits) self.old.waits.pending } } }
+    {
+        let way = self.waits.begin(now, id, out)?;
+        self.tally.inquiries = self.tally.inquiries.saturating_add(1);
+        Some(way)
     }
 
     /// The further addresses.
@@ -130,13 +178,6 @@ impl Asking {
     /// Whether a request waits for an answer of which no inquiry may be under way: an id is drawn only then.
     pub(crate) fn wants_id(&self) -> bool {
         self.waits.requests().iter().any(|r| r.awaits.is_asking())
-    }
-
-    /// An inquiry more began.
-    pub(crate) fn count_inquiry(&mut self)
-        ensures { self.new ≡ self.old }
-    {
-        self.tally.inquiries = self.tally.inquiries.saturating_add(1);
     }
 
     /// The first request that the server may grant, as it comes to it: leaves its registration in `octets`, and returns how it came; `None`

@@ -1,14 +1,19 @@
 //! The port of a server that asks, and what is done between two of its turns.
 
-ghost use Rattle.std.specs.Prelude.{◌≡◌, ◌⊎◌, Ok, None};
-ghost use Rattle.nbt_asking.specs.Attending.{Attends};
+ghost use Rattle.std.specs.Prelude.{◌≡◌, ◌⊎◌, ◌≤◌, [], Ok, Option, None, IfNone, IfSome, length};
+ghost use Rattle.nbt_lease.specs.Lease.{TableValue};
+ghost use Rattle.nbt_asking.specs.Attending.{Attends, Goes, ServesOne, Turned, turned_by};
+ghost use Rattle.nbt_asking.specs.Port.{AskingDoes, AskingPortValue, IsBack, asking_port};
+ghost use Rattle.nbt_asking.specs.Inner.Parts.{RefusesAtOnce, ServesAll, TakesBack};
 ghost use Rattle.nbt_port.specs.PortCalls.{receiving, sending, CountsFailure};
 
 use crate::aside::{Aside, is_aside};
 use crate::asking::{Asking, Leaving, UNASKED};
 use crate::flags::TellsFlags;
 use crate::ids::Ids;
-use crate::listing::{ReplyKind, is_of_unique, kind_of, release_in, write_listed, write_released};
+use crate::listing::{
+    ReplyKind, kind_of, refuses_unique, release_in, write_listed, write_released,
+};
 use crate::replies::{ACTIVE, write_reply};
 use arrayvec::ArrayVec;
 use nbt_confirm::{
@@ -29,10 +34,12 @@ const QUERIES_MOST: usize = 16;
 /// The port of a server that asks, over another one. Between two turns it has to be called by [`AskingPort::attend`].
 #[derive(Drop)]
 pub struct AskingPort<P, C, I> {
-    beneath: P,
+    /// The port beneath.
+    pub beneath: P,
+    /// What waits, and the further addresses.
+    pub asking: Asking,
     clock: C,
     ids: I,
-    asking: Asking,
     aside: Aside,
     came: Came,
     quiet: Option<Addr>,
@@ -49,12 +56,14 @@ impl<P, C, I> Model for AskingPort<P, C, I> {
 
 impl<P, C, I> AskingPort<P, C, I> {
     /// A port over this one, with a clock that tells the times of the server's, and a source of ids.
-    pub fn new(beneath: P, clock: C, ids: I, asking: Asking) -> AskingPort<P, C, I> {
+    pub fn new(beneath: P, clock: C, ids: I, asking: Asking) -> AskingPort<P, C, I>
+        ensures { result ≡ asking_port beneath asking }
+    {
         AskingPort {
             beneath,
+            asking,
             clock,
             ids,
-            asking,
             aside: Aside::new(),
             came: Came {
                 from: Addr { ip: 0, port: 0 },
@@ -66,28 +75,11 @@ impl<P, C, I> AskingPort<P, C, I> {
         }
     }
 
-    /// The port beneath.
-    pub fn beneath(&self) -> &P {
-        &self.beneath
-    }
-
-    /// The same, to be changed.
-    pub fn beneath_mut(&mut self) -> &mut P {
-        &mut self.beneath
-    }
-
-    /// What waits, and the further addresses.
-    pub fn asking(&self) -> &Asking {
-        &self.asking
-    }
-
-    /// The same, to take its notes.
-    pub fn asking_mut(&mut self) -> &mut Asking {
-        &mut self.asking
-    }
-
     /// What comes to the server without being received: a request that was set aside, or one that it may grant.
-    fn take_back(&mut self, octets: &mut ArrayVec<u8, 2048>) -> Option<Route> {
+    fn take_back(&mut self, octets: &mut ArrayVec<u8, 2048>) -> Option<Route>
+        ensures back { IfSome result (λ from. TakesBack self.old from octets.new.items self.new) }
+        ensures none { IfNone result ((¬ IsBack self.old.kept) × (self.old.asking.granted ≡ []) × (self.new ≡ self.old) × (octets.new.items ≡ octets.old.items)) }
+    {
         let came = match self.aside.take_back(octets) {
             Some(came) => came,
             None => self.asking.take_granted(octets)?,
@@ -105,7 +97,11 @@ impl<P, C, I> AskingPort<P, C, I> {
 
 impl<P: Port + TellsFlags, C: Clock, I: Ids> AskingPort<P, C, I> {
     /// Sets aside what was received, where that is to be looked at first, or hands it on.
-    fn pass(&mut self, from: Option<Route>, octets: &mut ArrayVec<u8, 2048>) -> Option<Route> {
+    fn pass(&mut self, from: Option<Route>, octets: &mut ArrayVec<u8, 2048>) -> Option<Route>
+        requires { length octets.old.items ≤ 2048 }
+        ensures { (before : AskingPortValue P) → ¬ IsBack before.kept → self.old ≡ record before { port = self.old.port } → P.does before.port (receiving (Ok from) octets.old.items) self.old.port
+            → AskingDoes P.does before (receiving {E = Device} (Ok result) octets.new.items) self.new }
+    {
         let route = from?;
         let came = Came {
             from: route.peer,
@@ -151,14 +147,17 @@ impl<P: Port + TellsFlags, C: Clock, I: Ids> AskingPort<P, C, I> {
     }
 
     /// Looks at what was set aside.
-    fn look_aside(&mut self, table: &Table, now: Moment) {
+    fn look_aside(&mut self, table: &Table, now: Moment)
+        requires { table.now.last ≤ now }
+        ensures { (turned : Option Turned) → Goes P.does table.now now turned self.old self.new }
+    {
         if !self.aside.is_there() {
             return;
         }
         let came = self.aside.came();
         if came.flags >= 0x8000 {
-            let machine = self.asking.waits_mut().hear(came.from, self.aside.octets());
-            self.aside.drop();
+            let machine = self.asking.hear(came.from, self.aside.octets());
+            self.aside.let_go();
             if let Some(machine) = machine {
                 self.serve(table, now, &machine);
             }
@@ -172,16 +171,19 @@ impl<P: Port + TellsFlags, C: Clock, I: Ids> AskingPort<P, C, I> {
             Some(awaits) => {
                 let request = request_of(came, &claim, awaits, came.from.ip);
                 self.asking.wait(request);
-                self.aside.drop();
+                self.aside.let_go();
             }
             None => self.aside.come_back(),
         }
     }
 
     /// Serves the requests that waited for what a machine said.
-    fn serve(&mut self, table: &Table, now: Moment, machine: &Machine) {
+    fn serve(&mut self, table: &Table, now: Moment, machine: &Machine)
+        requires { table.now.last ≤ now }
+        ensures { ServesAll P.does (ServesOne table.now now machine.now) self.old self.new }
+    {
         for _ in 0..WAITS_MOST {
-            let Some(served) = self.asking.waits_mut().serve(machine) else {
+            let Some(served) = self.asking.serve(machine) else {
                 return;
             };
             let leaving = self
@@ -192,13 +194,16 @@ impl<P: Port + TellsFlags, C: Clock, I: Ids> AskingPort<P, C, I> {
     }
 
     /// Serves the requests that waited for one who didn't answer.
-    fn give_up(&mut self, table: &Table, now: Moment) {
+    fn give_up(&mut self, table: &Table, now: Moment)
+        requires { table.now.last ≤ now }
+        ensures { (turned : Option Turned) → Goes P.does table.now now turned self.old self.new }
+    {
         for _ in 0..QUERIES_MOST {
-            let Some(silence) = self.asking.waits_mut().give_up(now) else {
+            let Some(silence) = self.asking.give_up(now) else {
                 return;
             };
             for _ in 0..WAITS_MOST {
-                let Some(served) = self.asking.waits_mut().serve_silence(&silence) else {
+                let Some(served) = self.asking.serve_silence(&silence) else {
                     break;
                 };
                 let leaving = self.asking.settle(table, now, served, &mut self.out);
@@ -208,13 +213,11 @@ impl<P: Port + TellsFlags, C: Clock, I: Ids> AskingPort<P, C, I> {
     }
 
     /// Looks at what the server did in its turn.
-    fn look_at_turn(
-        &mut self,
-        table: &Table,
-        now: Moment,
-        octets: &[u8],
-        entry: &mut Option<Entry>,
-    ) {
+    fn look_at_turn(&mut self, table: &Table, now: Moment, octets: &[u8], entry: &mut Option<Entry>)
+        requires { table.now.last ≤ now }
+        ensures goes { Goes P.does table.now now (turned_by self.old.last octets.now entry.old) self.old self.new }
+        ensures entry { (entry.new ≡ entry.old) ⊎ (entry.new ≡ None) }
+    {
         let Some(done) = entry else {
             return;
         };
@@ -241,7 +244,9 @@ impl<P: Port + TellsFlags, C: Clock, I: Ids> AskingPort<P, C, I> {
     }
 
     /// Sends the refusal of a unique name that a group has, which was held back.
-    fn refuse(&mut self, came: Came, octets: &[u8]) {
+    fn refuse(&mut self, came: Came, octets: &[u8])
+        ensures { RefusesAtOnce P.does came octets.now self.old self.new }
+    {
         let Some(claim) = claim_in(octets) else {
             return;
         };
@@ -258,9 +263,11 @@ impl<P: Port + TellsFlags, C: Clock, I: Ids> AskingPort<P, C, I> {
     }
 
     /// Sends what is due.
-    fn ask(&mut self, now: Moment) {
+    fn ask(&mut self, now: Moment)
+        ensures { (table : TableValue) (turned : Option Turned) → Goes P.does table now turned self.old self.new }
+    {
         for _ in 0..QUERIES_MOST {
-            let Some(way) = self.asking.waits_mut().repeat(now, &mut self.out) else {
+            let Some(way) = self.asking.repeat(now, &mut self.out) else {
                 break;
             };
             self.send_query(way);
@@ -272,10 +279,9 @@ impl<P: Port + TellsFlags, C: Clock, I: Ids> AskingPort<P, C, I> {
             let Some(id) = self.ids.draw() else {
                 return;
             };
-            let Some(way) = self.asking.waits_mut().begin(now, id, &mut self.out) else {
+            let Some(way) = self.asking.begin(now, id, &mut self.out) else {
                 return;
             };
-            self.asking.count_inquiry();
             self.send_query(way);
         }
     }
@@ -306,7 +312,7 @@ impl<P: Port + TellsFlags, C: Clock, I: Ids> AskingPort<P, C, I> {
     /// Sends a reply of the server's: held back, with the further addresses, or as it is.
     fn send_reply(&mut self, to: Route, octets: &[u8]) -> Result<(), Device> {
         match kind_of(octets) {
-            ReplyKind::Refusal if is_of_unique(octets) => Ok(()),
+            ReplyKind::Refusal if refuses_unique(octets) => Ok(()),
             ReplyKind::ReleaseRefusal if self.is_released(to, octets) => {
                 self.beneath.send(to, self.out.as_slice())
             }
@@ -319,12 +325,14 @@ impl<P: Port + TellsFlags, C: Clock, I: Ids> AskingPort<P, C, I> {
 
     /// Whether the refused release was a further address's, which has ended then. The positive reply is in `out`.
     fn is_released(&mut self, to: Route, octets: &[u8]) -> bool {
-        let Some((name, addr)) = release_in(octets) else {
+        let Some(release) = release_in(octets) else {
             return false;
         };
-        to.peer.ip == addr
-            && self.asking.release(&name, addr)
-            && write_released(octets, &mut self.out)
+        if to.peer.ip != release.addr || !self.asking.release(&release.name, release.addr) {
+            return false;
+        }
+        write_released(&release, &mut self.out);
+        true
     }
 
     /// Whether there are further addresses of the machine that a reply is about. The reply with them is in `out`.

@@ -59,11 +59,11 @@ impl<P: Renewable, C, I> Renewable for AskingPort<P, C, I> {
     ghost renews = { RenewsAsking P.renews };
 
     fn front(&self) -> &Front {
-        self.beneath().front()
+        self.beneath.front()
     }
 
     fn standing(&self) -> &[(Name, Lease)] {
-        self.beneath().standing()
+        self.beneath.standing()
     }
 
     fn renew(
@@ -72,7 +72,7 @@ impl<P: Renewable, C, I> Renewable for AskingPort<P, C, I> {
         live: Vec<(Name, Lease)>,
         at: Moment,
     ) -> Result<(), AllocError> {
-        self.beneath_mut().renew(front, live, at)
+        self.beneath.renew(front, live, at)
     }
 }
 
@@ -251,7 +251,7 @@ fn tell_notes<P, F, I, V: TellsAsked, W: Write, E: Write>(
     errors: &mut E,
 ) {
     for _ in 0..NOTES_MOST {
-        let Some(note) = port.asking_mut().take_note() else {
+        let Some(note) = port.asking.take_note() else {
             return;
         };
         watcher.tell_asked(

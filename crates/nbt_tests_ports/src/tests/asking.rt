@@ -457,7 +457,7 @@ fn stage<'a, R: Abort + AllocGlobal>(rt: &R, time: &'a Cell<u64>, parts: &[&[Tur
 }
 
 fn sent<'a>(port: &'a Stage<'_>) -> &'a [Datagram] {
-    port.beneath().beneath().beneath().sent()
+    port.beneath.beneath().beneath().sent()
 }
 
 fn play<R: Abort + AllocGlobal>(rt: &R, parts: &[&[Turn]]) {
