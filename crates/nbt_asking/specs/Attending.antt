@@ -95,18 +95,18 @@ pub data Accepts (now until : ℕ) (r : Request) (old : AskingValue) : List Data
   not_reached : is_reached old.further r ≡ false
       → Accepts now until r old (replied (reply 0 (seconds_until now until) r) r ++ datagram (at_port r.asked r) (reply 0 (seconds_until now until) r) ∷ []) (waiting (asking a.Reach r.addr r) old)
 
--- a client has as many rows as it may have, leases and further addresses together
-abbrev pub IsFull : TableValue → (now client : ℕ) → AskingValue → Type 0
-IsFull table now client old = old.rows_per_client - rows.count_of now client old.further ≤ count_of now client table.rows
+-- It isn't a further address of the name yet, and its client has as many rows as it may have, leases and further addresses together.
+abbrev pub IsFull : TableValue → (now : ℕ) → NameValue → (addr : ℕ) → AskingValue → Type 0
+IsFull table now name addr old = (list_any (is_at name addr) old.further ≡ false) × (old.rows_per_client - rows.count_of now addr old.further ≤ count_of now addr table.rows)
 
 -- The machine at the address that was asked listed the request's address: it is put among the further addresses, and accepted; or refused with
 -- SRV_ERR where there is no room. Where that address has its lease no more, or it is that address itself, the server has the request.
 pub data ConfirmsIt (table : TableValue) (now : ℕ) (machine : MachineValue) (r : Request) (old : AskingValue) : List DatagramValue → AskingValue → Type 0 where
-  puts : (c : ConfirmedValue) (end : ℕ) (sends : List DatagramValue) (new : AskingValue) → IsFurther machine c → c.addr ≡ r.addr → IsLeasedUntil machine.asked end (leases_at now table.rows machine.name) → ¬ IsFull table now r.addr old
+  puts : (c : ConfirmedValue) (end : ℕ) (sends : List DatagramValue) (new : AskingValue) → IsFurther machine c → c.addr ≡ r.addr → IsLeasedUntil machine.asked end (leases_at now table.rows machine.name) → ¬ IsFull table now r.name r.addr old
       → Accepts now (min (until_of table now r.ttl) end) r (record old { further = with_put (put_as (kept_at now old.further) c) (kept_at now old.further) c (until_of table now r.ttl) end }) sends new
       → ConfirmsIt table now machine r old sends new
   has_no_room : (further : List Further) → ConfirmsIt table now machine r old (replied (reply server_error 0 r) r) (record old { further = kept_at now old.further })
-  is_full : IsFull table now r.addr old → ConfirmsIt table now machine r old (replied (reply server_error 0 r) r) old
+  is_full : IsFull table now r.name r.addr old → ConfirmsIt table now machine r old (replied (reply server_error 0 r) r) old
   by_rule : ((c : ConfirmedValue) (end : ℕ) → IsFurther machine c → c.addr ≡ r.addr → ¬ IsLeasedUntil machine.asked end (leases_at now table.rows machine.name)) → ConfirmsIt table now machine r old [] (granting r old)
 
 -- ---- a request that was served
@@ -209,6 +209,7 @@ module _ {P : Type 0} (table : TableValue) (now : ℕ) where
     refuses_at_once : (t : Turned) (r : Registration) → turned ≡ Some t → Claims t.octets r → ((q : Request) → ¬ IsHeldBack table now t.came t.octets t.outcome q)
         → Does turned old (datagram (route_of t.came) (text (registered active_error (record r { ttl = 0 }))) ∷ []) old
     passes_on : (t : Turned) (claim : Claim) (new : AskingValue) → turned ≡ Some t → t.outcome ≡ Released claim → claim.kind ≡ Unique → PassesOn now claim.name claim.addr old.asking new → Does turned old [] (with_asking new old)
+    sweeps : Does turned old [] (with_asking (record old.asking { further = kept_at now old.asking.further }) old)
     wakes : (new : AskingValue) → Wakes table now old.asking new → Does turned old [] (with_asking new old)
     follows : (new : AskingValue) → FollowsFirst table now old.asking new → Does turned old [] (with_asking new old)
     repeats : (way : Way) (octets : List ℕ) → Sends (inquiry_in (find (is_to_repeat now) old.asking.waits.pending)) (Some way) octets

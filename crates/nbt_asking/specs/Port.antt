@@ -93,7 +93,7 @@ pub data AskingDoes {P : Type 0} (does : P → PortCall → P → Type 0) (old :
       → AskingDoes does old nothing_came (record old { port = port; kept = aside (came_by from flags) octets })
   waits : (port : P) → ¬ IsBack old.kept → does old.port nothing_came port → AskingDoes does old nothing_came (record old { port = port })
   fails : (port : P) → ¬ IsBack old.kept → does old.port receive_failed port → AskingDoes does old receive_failed (record old { port = port })
-  is_quiet : (to : Route) (octets : List ℕ) → old.quiet ≡ Some to.peer → AskingDoes does old (sent to octets) (record old { quiet = None })
+  is_quiet : (to : Route) (octets : List ℕ) → old.quiet ≡ Some to.peer → word_at octets 0 ≡ 0 → AskingDoes does old (sent to octets) (record old { quiet = None })
   leaves_not : (now : ℕ) (to : Route) (octets : List ℕ) (further : List Further) → LeavesAs old.asking.further now to octets None further → AskingDoes does old (sent to octets) old
   leaves : (now : ℕ) (to : Route) (octets out : List ℕ) (further : List Further) (port : P) → LeavesAs old.asking.further now to octets (Some out) further → does old.port (sent to out) port
       → AskingDoes does old (sent to octets) (record old { port = port; asking = record old.asking { further = further } })

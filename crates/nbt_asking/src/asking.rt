@@ -10,7 +10,7 @@ ghost use Rattle.nbt_name.specs.declared.addr.Kind.TheVariants.{Unique};
 ghost use Rattle.nbt_server.specs.Serving.{seconds_until};
 ghost use Rattle.nbt_confirm.specs.declared.outcome.Answer.TheVariants.{Silent};
 ghost use Rattle.nbt_confirm.specs.Firsts.{with_first, without_first};
-ghost use Rattle.nbt_confirm.specs.Further.{is_at, is_next, without};
+ghost use Rattle.nbt_confirm.specs.Further.{is_at, is_next, kept_at, without};
 ghost use Rattle.nbt_confirm.specs.Waiting.{Hears, Sends, answer_of, inquiry_in, is_for, is_to_repeat, is_unanswered, next_begun, repeated, served_by, with_begun};
 ghost use Rattle.nbt_confirm.specs.declared.outcome.Outcome.TheVariants.{AwaitLeaseEnd, Further as FurtherOutcome};
 ghost use Rattle.nbt_asking.specs.Asking.{any_under_way, asks_nothing};
@@ -307,7 +307,7 @@ impl Asking {
             self.grant(request);
             return None;
         };
-        if self.is_full(table, now, request.addr) {
+        if self.is_full(table, now, &request.name, request.addr) {
             return Some(self.answer(request, Asked::Full, SERVER_ERROR, out));
         }
         let until = until_of(table, now, request.ttl);
@@ -511,23 +511,44 @@ impl Asking {
         ensures is { result ≡ list_any (is_at name.now addr) self.old.further }
         ensures further { self.new ≡ record self.old { further = without name.now addr self.old.further } }
     {
-        let is_there = self
-            .further
-            .rows()
-            .iter()
-            .any(|row| row.name == *name && row.addr == addr);
+        let is_there = self.is_there(name, addr);
+        self.further.end(name, addr);
         if is_there {
-            self.further.end(name, addr);
+            self.keep_note(Note {
+                asked: Asked::Released,
+                name: name.copy(),
+                kind: Kind::Unique,
+                addr,
+                of: addr,
+                seconds: 0,
+            });
         }
         is_there
     }
 
-    /// Whether a client has as many rows as it may have.
-    fn is_full(&self, table: &Table, now: Moment, client: u32) -> bool
-        ensures { IsTrue result ↔ IsFull table.now now client self.now }
+    /// Whether an address is a further one of a name, or was.
+    fn is_there(&self, name: &Name, addr: u32) -> bool
+        ensures { result ≡ list_any (is_at name.now addr) self.now.further }
     {
-        let own = self.further.count_of(now, client) as u32;
-        table.has_at_least(now, client, self.rows_per_client.saturating_sub(own))
+        is_there_in(self.further.rows(), name, addr)
+    }
+
+    /// Removes the further addresses whose own refreshes are over.
+    pub(crate) fn sweep(&mut self, now: Moment)
+        ensures { self.new ≡ record self.old { further = kept_at now self.old.further } }
+    {
+        self.further.sweep(now);
+    }
+
+    /// Whether there is no room for a further address: it isn't one yet, and its client has as many rows as it may have.
+    fn is_full(&self, table: &Table, now: Moment, name: &Name, addr: u32) -> bool
+        ensures { IsTrue result ↔ IsFull table.now now name.now addr self.now }
+    {
+        if self.is_there(name, addr) {
+            return false;
+        }
+        let own = self.further.count_of(now, addr) as u32;
+        table.has_at_least(now, addr, self.rows_per_client.saturating_sub(own))
     }
 
     /// What came of a request is counted, and noted.
@@ -593,6 +614,13 @@ fn seconds_until(now: Moment, until: u64) -> u32
     ensures { result ≡ seconds_until now until }
 {
     until.saturating_sub(now.get()).div_ceil(SECOND) as u32
+}
+
+/// Whether one of these is of this name and address.
+fn is_there_in(rows: &[Further], name: &Name, addr: u32) -> bool
+    ensures { result ≡ list_any (is_at name.now addr) rows.now }
+{
+    rows.iter().any(|row| row.name == *name && row.addr == addr)
 }
 
 /// The first row that isn't listed any longer, though its own refreshes last.

@@ -1,7 +1,8 @@
 //! The port of a server that asks, and what is done between two of its turns.
 
-ghost use Rattle.std.specs.Prelude.{◌≡◌, ◌⊎◌, ◌≤◌, [], Ok, Option, None, IfNone, IfSome, length};
+ghost use Rattle.std.specs.Prelude.{◌≡◌, ◌⊎◌, ◌≤◌, [], Ok, Option, None, IfNone, IfSome, IsTrue, length};
 ghost use Rattle.nbt_lease.specs.Lease.{TableValue};
+ghost use Rattle.nbt_name.specs.Words.{word_at};
 ghost use Rattle.nbt_asking.specs.Attending.{Attends, Goes, ServesOne, Turned, turned_by};
 ghost use Rattle.nbt_asking.specs.Port.{AskingDoes, AskingPortValue, IsBack, asking_port};
 ghost use Rattle.nbt_asking.specs.Inner.Parts.{RefusesAtOnce, ServesAll, TakesBack};
@@ -21,7 +22,7 @@ use nbt_confirm::{
 };
 use nbt_lease::{Moment, Table};
 use nbt_log::Entry;
-use nbt_name::{Addr, Kind};
+use nbt_name::{Addr, Kind, read_word};
 use nbt_packet::{Message, Registration, read};
 use nbt_port::{Cause, Clock, Device, OwnReplies, Port, Route};
 use nbt_server::{Claim, Outcome, Refusal, Server};
@@ -133,6 +134,7 @@ impl<P: Port + TellsFlags, C: Clock, I: Ids> AskingPort<P, C, I> {
         self.look_aside(table, now);
         self.look_at_turn(table, now, octets, entry);
         self.give_up(table, now);
+        self.asking.sweep(now);
         for _ in 0..QUERIES_MOST {
             if !self.asking.wake(table, now) {
                 break;
@@ -369,7 +371,7 @@ impl<P: Port + TellsFlags, C: Clock, I: Ids> Port for AskingPort<P, C, I> {
     }
 
     fn send(&mut self, to: Route, octets: &[u8]) -> Result<(), Device> {
-        if self.quiet == Some(to.peer) {
+        if self.quiet == Some(to.peer) && is_unasked(octets) {
             self.quiet = None;
             return Ok(());
         }
@@ -403,6 +405,13 @@ fn is_refused(entry: &Option<Entry>) -> bool {
         Some(entry) => matches!(&entry.outcome, Outcome::Refused(_, Refusal::Active(_))),
         None => false,
     }
+}
+
+/// Whether a reply has the id of a request that nobody sent, 0.
+fn is_unasked(octets: &[u8]) -> bool
+    ensures { IsTrue result → (2 ≤ length octets.now) × (word_at octets.now 0 ≡ 0) }
+{
+    octets.len() >= 2 && read_word(octets, 0) == 0
 }
 
 /// The later of two times.
