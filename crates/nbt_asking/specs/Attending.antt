@@ -1,6 +1,6 @@
 -- What is done between two turns of a server that asks, one thing after the other (our profile). The server's table is looked at, and stays
 -- as it is: so leases begin, are renewed and end by the server's rules alone, in its turns.
-use Rattle.std.specs.Prelude.{◌≡◌, ◌≢◌, ℕ, ◌+◌, ◌*◌, ◌-◌, ◌<◌, ◌≤◌, ◌⊎◌, min, nat_eq, nat_lt, nat_le, ◌&&◌, Bool, true, false, if◌then◌else◌, List, [], ◌∷◌, ◌++◌, length, map, Option, Some, None, is_some}
+use Rattle.std.specs.Prelude.{◌≡◌, ◌≢◌, ℕ, ◌+◌, ◌*◌, ◌-◌, ◌^◌, ◌<◌, ◌≤◌, ◌⊎◌, min, nat_eq, nat_lt, nat_le, ◌&&◌, Bool, true, false, if◌then◌else◌, List, [], ◌∷◌, ◌++◌, length, map, Option, Some, None, is_some}
 use Rattle.std.specs.List.{find, flat_map, list_any}
 use Rattle.nbt_name.specs.Wire.{NameValue, same_name}
 use Rattle.nbt_name.specs.declared.addr.Addr.{Addr}
@@ -36,6 +36,7 @@ use Rattle.nbt_confirm.specs.Deciding.{AsksFirst, Claims, IsHeldBack, IsLeasedBy
 use Rattle.nbt_confirm.specs.Firsts.{with_first, without_first}
 use Rattle.nbt_confirm.specs.Further as rows
 use Rattle.nbt_confirm.specs.Further.{addr_in, is_at, is_confirmed, is_next, kept_at, put_as, reached_row, renewed_row, with_put, without_name}
+use Rattle.nbt_confirm.specs.declared.further.Put.{Put}
 use Rattle.nbt_confirm.specs.declared.further.Put.TheVariants as put
 use Rattle.nbt_confirm.specs.Inquiries.{ConfirmedValue, IsFurther, MachineValue, name_port, way_of}
 use Rattle.nbt_confirm.specs.Waiting.{Hears, Sends, WaitsValue, answer_of, inquiry_in, is_for, is_past, is_to_repeat, is_unanswered, next_begun, repeated, served_by, taken_as, wait_form, wait_seconds, waits_most, with_begun, with_taken}
@@ -99,13 +100,19 @@ pub data Accepts (now until : ℕ) (r : Request) (old : AskingValue) : List Data
 abbrev pub IsFull : TableValue → (now : ℕ) → NameValue → (addr : ℕ) → AskingValue → Type 0
 IsFull table now name addr old = (list_any (is_at name addr) old.further ≡ false) × (old.rows_per_client - rows.count_of now addr old.further ≤ count_of now addr table.rows)
 
+-- it was added, or renewed
+abbrev pub HasRoom : Put → Type 0
+HasRoom put.Begun = Unit {0}
+HasRoom put.Renewed = Unit {0}
+HasRoom other = ⊥
+
 -- The machine at the address that was asked listed the request's address: it is put among the further addresses, and accepted; or refused with
 -- SRV_ERR where there is no room. Where that address has its lease no more, or it is that address itself, the server has the request.
 pub data ConfirmsIt (table : TableValue) (now : ℕ) (machine : MachineValue) (r : Request) (old : AskingValue) : List DatagramValue → AskingValue → Type 0 where
-  puts : (c : ConfirmedValue) (end : ℕ) (sends : List DatagramValue) (new : AskingValue) → IsFurther machine c → c.addr ≡ r.addr → IsLeasedUntil machine.asked end (leases_at now table.rows machine.name) → ¬ IsFull table now r.name r.addr old
+  puts : (c : ConfirmedValue) (end : ℕ) (sends : List DatagramValue) (new : AskingValue) → IsFurther machine c → c.addr ≡ r.addr → HasRoom (put_as (kept_at now old.further) c) → IsLeasedUntil machine.asked end (leases_at now table.rows machine.name) → ¬ IsFull table now r.name r.addr old
       → Accepts now (min (until_of table now r.ttl) end) r (record old { further = with_put (put_as (kept_at now old.further) c) (kept_at now old.further) c (until_of table now r.ttl) end }) sends new
       → ConfirmsIt table now machine r old sends new
-  has_no_room : (further : List Further) → ConfirmsIt table now machine r old (replied (reply server_error 0 r) r) (record old { further = kept_at now old.further })
+  has_no_room : (c : ConfirmedValue) → IsFurther machine c → c.addr ≡ r.addr → ¬ HasRoom (put_as (kept_at now old.further) c) → ConfirmsIt table now machine r old (replied (reply server_error 0 r) r) (record old { further = kept_at now old.further })
   is_full : IsFull table now r.name r.addr old → ConfirmsIt table now machine r old (replied (reply server_error 0 r) r) old
   by_rule : ((c : ConfirmedValue) (end : ℕ) → IsFurther machine c → c.addr ≡ r.addr → ¬ IsLeasedUntil machine.asked end (leases_at now table.rows machine.name)) → ConfirmsIt table now machine r old [] (granting r old)
 
@@ -145,10 +152,14 @@ ServesSilence table now i old sends new = (r : Request) × (find (is_for i.name 
 abbrev pub takes_over : NameValue → (addr left : ℕ) → Request
 takes_over name addr left = record { from = record { ip = addr; port = name_port }; local = None; id = 0; flags = unasked; name = name; kind = Unique; addr = addr; ttl = left; awaits = a.Sender; asked = addr }
 
+-- the seconds until then, as far as a TTL says them
+abbrev pub seconds_left : (now until : ℕ) → ℕ
+seconds_left now until = min (seconds_until now until) (2 ^ 32 - 1)
+
 -- The holder has the name no more: the first of its machine's addresses that has answered has the server grant it, and all further addresses end.
 pub data PassesOn (now : ℕ) (name : NameValue) (holder : ℕ) (old : AskingValue) : AskingValue → Type 0 where
   to_next : (row : Further) → find (is_next now name holder) old.further ≡ Some row
-      → PassesOn now name holder old (granting (takes_over name row.addr (seconds_until now row.renewed_until)) (record old { further = without_name name old.further }))
+      → PassesOn now name holder old (granting (takes_over name row.addr (seconds_left now row.renewed_until)) (record old { further = without_name name old.further }))
   to_nobody : find (is_next now name holder) old.further ≡ None → PassesOn now name holder old (record old { further = without_name name old.further })
 
 -- its own refreshes last, but the lease that it was put by is over

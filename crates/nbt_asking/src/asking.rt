@@ -14,7 +14,7 @@ ghost use Rattle.nbt_confirm.specs.Further.{is_at, is_next, kept_at, without};
 ghost use Rattle.nbt_confirm.specs.Waiting.{Hears, Sends, answer_of, inquiry_in, is_for, is_to_repeat, is_unanswered, next_begun, repeated, served_by, with_begun};
 ghost use Rattle.nbt_confirm.specs.declared.outcome.Outcome.TheVariants.{AwaitLeaseEnd, Further as FurtherOutcome};
 ghost use Rattle.nbt_asking.specs.Asking.{any_under_way, asks_nothing};
-ghost use Rattle.nbt_asking.specs.Attending.{Accepts, ConfirmsIt, FollowsFirst, Holds, IsFull, IsLeasedUntil, PassesOn, Settles, SettlesBy, Wakes, granting, is_over, replied, reply, until_of, waiting};
+ghost use Rattle.nbt_asking.specs.Attending.{Accepts, ConfirmsIt, FollowsFirst, Holds, IsFull, IsLeasedUntil, PassesOn, Settles, SettlesBy, Wakes, granting, is_over, replied, reply, seconds_left, until_of, waiting};
 ghost use Rattle.nbt_asking.specs.Inner.Parts.{TakesGranted, sends_of};
 
 use crate::replies::{ACTIVE, REFUSED, SERVER_ERROR, route_of, write_claim, write_reply};
@@ -22,7 +22,7 @@ use crate::tally::{AskTally, Asked, Note};
 use arrayvec::ArrayVec;
 use nbt_confirm::{
     Awaits, Came, Further, FurtherAddresses, Machine, NAME_PORT, Outcome, Put, Request, Served,
-    Taken, WAITS_MOST, Waits, wait_seconds, write_wait,
+    Silence, Taken, WAITS_MOST, Waits, Way, wait_seconds, write_wait,
 };
 use nbt_lease::{Lease, Moment, Table};
 use nbt_name::{Addr, Kind, Name};
@@ -330,6 +330,7 @@ impl Asking {
         until: u64,
         out: &mut ArrayVec<u8, 576>,
     ) -> Leaving
+        requires { until ≤ now + milliseconds LONGEST_MOST }
         ensures { Accepts now until request self.old (sends_of (Some result) out.new.items) self.new }
     {
         let seconds = seconds_until(now, until);
@@ -616,6 +617,14 @@ fn seconds_until(now: Moment, until: u64) -> u32
     until.saturating_sub(now.get()).div_ceil(SECOND) as u32
 }
 
+/// The same, as far as a TTL says it.
+fn seconds_left(now: Moment, until: u64) -> u32
+    ensures { result ≡ seconds_left now until }
+{
+    let seconds = until.saturating_sub(now.get()).div_ceil(SECOND);
+    seconds.min(u64::from(u32::MAX)) as u32
+}
+
 /// Whether one of these is of this name and address.
 fn is_there_in(rows: &[Further], name: &Name, addr: u32) -> bool
     ensures { result ≡ list_any (is_at name.now addr) rows.now }
@@ -639,7 +648,7 @@ fn first_over(rows: &[Further], now: Moment) -> Option<&Further>
 
 /// For how many seconds the address still lasts that takes a lease over.
 fn left_of_next(rows: &[Further], now: Moment, name: &Name, holder: u32) -> Option<u32>
-    ensures { result ≡ option_map (λ row. seconds_until now row.renewed_until) (find (is_next now name.now holder) rows.now) }
+    ensures { result ≡ option_map (λ row. seconds_left now row.renewed_until) (find (is_next now name.now holder) rows.now) }
 {
     for row in rows {
         if row.reached
@@ -647,7 +656,7 @@ fn left_of_next(rows: &[Further], now: Moment, name: &Name, holder: u32) -> Opti
             && row.holder == holder
             && now.get() < row.renewed_until
         {
-            return Some(seconds_until(now, row.renewed_until));
+            return Some(seconds_left(now, row.renewed_until));
         }
     }
     None

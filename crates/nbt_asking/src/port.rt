@@ -25,7 +25,7 @@ use nbt_log::Entry;
 use nbt_name::{Addr, Kind, read_word};
 use nbt_packet::{Message, Registration, read};
 use nbt_port::{Cause, Clock, Device, OwnReplies, Port, Route};
-use nbt_server::{Claim, Outcome, Refusal, Server};
+use nbt_server::{Outcome, Refusal, Server};
 use std::io::Write;
 use std::marker::Model;
 
