@@ -17,7 +17,7 @@ use Rattle.nbt_serve.specs.Samba.{multi_homed}
 use Rattle.nbt_confirm.specs.declared.further.Further.{Further}
 use Rattle.nbt_confirm.specs.declared.request.Came.{Came}
 use Rattle.nbt_confirm.specs.declared.request.Request.{Request}
-use Rattle.nbt_confirm.specs.Further.{is_at, listed_at, without}
+use Rattle.nbt_confirm.specs.Further.{is_at, listed_at, name_most, without}
 use Rattle.nbt_confirm.specs.Inquiries.{name_port}
 use Rattle.nbt_asking.specs.Asking.{AskingValue, Kept, nothing, aside, back, any_under_way, claim_of, came_of}
 
@@ -68,16 +68,32 @@ entries_of holder more = entry Unique holder ++ flat_map (λ addr. entry Unique 
 abbrev pub that_fit : NameValue → List ℕ → List ℕ
 that_fit name more = take (entries_most name - 1) more
 
+-- the octets refuse a unique name, since another has it
+abbrev pub RefusesUnique : (octets : List ℕ) → Type 0
+RefusesUnique octets = (r : Registration) × Spells octets (registered active_error r) × (r.kind ≡ Unique)
+
+-- they refuse a further address's release to that address
+abbrev pub RefusesRelease : (further : List Further) → (ip : ℕ) → (octets : List ℕ) → Type 0
+RefusesRelease further ip octets = (id : ℕ) × (name : NameValue) × (kind : Kind) × Spells octets (released id active_error name kind ip) × (list_any (is_at name ip) further ≡ true)
+
+-- they list a holder whose machine has further addresses
+abbrev pub ListsHolder : (further : List Further) → (now : ℕ) → (octets : List ℕ) → Type 0
+ListsHolder further now octets = (id : ℕ) × (name : NameValue) × (ttl : ℕ) × (holder : ℕ) × Spells octets (found id name ttl (entry Unique holder) false) × (listed_at now name holder further ≢ [])
+
+-- the holder's address, and those further ones that fit; cut where one doesn't
+abbrev pub found_with : (id : ℕ) → NameValue → (ttl holder : ℕ) → (more : List ℕ) → List ℕ
+found_with id name ttl holder more = text (found id name ttl (entries_of holder (that_fit name more)) (nat_lt (length (that_fit name more)) (length more)))
+
 -- What leaves of a reply at a moment, if something does, and the further addresses then. A refusal of a unique name since another has it is held
 -- back. A further address's release is confirmed, though the server refuses it. The holder's address is followed by the further addresses of
 -- its machine, as many as fit. Every other reply leaves as it is.
 pub data LeavesAs (further : List Further) (now : ℕ) (to : Route) (octets : List ℕ) : Option (List ℕ) → List Further → Type 0 where
-  held_back : (r : Registration) → Spells octets (registered active_error r) → r.kind ≡ Unique → LeavesAs further now to octets None further
+  held_back : RefusesUnique octets → LeavesAs further now to octets None further
   ends : (id : ℕ) (name : NameValue) (kind : Kind) → Spells octets (released id active_error name kind to.peer.ip) → list_any (is_at name to.peer.ip) further ≡ true
       → LeavesAs further now to octets (Some (text (released id 0 name kind to.peer.ip))) (without name to.peer.ip further)
-  lists : (id : ℕ) (name : NameValue) (ttl holder : ℕ) (more : List ℕ) → Spells octets (found id name ttl (entry Unique holder) false) → more ≡ listed_at now name holder further → more ≢ []
-      → LeavesAs further now to octets (Some (text (found id name ttl (entries_of holder (that_fit name more)) (nat_lt (length (that_fit name more)) (length more))))) further
-  as_it_is : LeavesAs further now to octets (Some octets) further
+  lists : (id : ℕ) (name : NameValue) (ttl holder : ℕ) → Spells octets (found id name ttl (entry Unique holder) false) → listed_at now name holder further ≢ []
+      → LeavesAs further now to octets (Some (found_with id name ttl holder (take name_most (listed_at now name holder further)))) further
+  as_it_is : ¬ RefusesUnique octets → ¬ RefusesRelease further to.peer.ip octets → ¬ ListsHolder further now octets → LeavesAs further now to octets (Some octets) further
 
 -- ---- a call
 

@@ -1,16 +1,18 @@
 //! Replies on their way out: those that name further addresses, and those that don't leave.
 
-ghost use Rattle.std.specs.Prelude.{◌≡◌, ◌≢◌, ◌<◌, ◌≤◌, ◌-◌, ◌++◌, ℕ, [], Some, IfSome, IsTrue, length, nat_lt, take};
+ghost use Rattle.std.specs.Prelude.{◌≡◌, ◌≢◌, ◌↔◌, ◌<◌, ◌≤◌, ◌-◌, ◌^◌, ◌++◌, ℕ, List, [], Some, IfSome, IfNone, IsTrue, length, nat_lt, take};
 ghost use Rattle.std.specs.List.{flat_map};
 ghost use Rattle.nbt_name.specs.declared.addr.Kind.TheVariants.{Unique};
-ghost use Rattle.nbt_packet.specs.declared.message.Registration.{Registration as Claimed};
-ghost use Rattle.nbt_packet.specs.Message.{registered, released};
+ghost use Rattle.nbt_name.specs.Wire.{NameValue};
+ghost use Rattle.nbt_name.specs.declared.addr.Kind.{Kind as KindValue};
+ghost use Rattle.nbt_packet.specs.Message.{released};
 ghost use Rattle.nbt_packet.specs.Spelling.{Spells};
 ghost use Rattle.nbt_packet.specs.Text.{entry, text};
 ghost use Rattle.nbt_port.specs.declared.port.Route.{Route};
 ghost use Rattle.nbt_server.specs.Serving.{active_error};
 ghost use Rattle.nbt_confirm.specs.Further.{listed_at, name_most};
-ghost use Rattle.nbt_asking.specs.Port.{LeavesAs};
+ghost use Rattle.nbt_confirm.specs.declared.further.Further.{Further as FurtherRow};
+ghost use Rattle.nbt_asking.specs.Port.{LeavesAs, ListsHolder, RefusesRelease, RefusesUnique};
 
 use arrayvec::ArrayVec;
 use nbt_confirm::{FurtherAddresses, NAME_MOST};
@@ -23,14 +25,12 @@ const FLAGS: usize = 2;
 
 const FLAGS_END: usize = 4;
 
-/// NEGATIVE NAME REGISTRATION RESPONSE with ACT_ERR (RFC 1002 section 4.2.6).
-const REFUSED_REGISTRATION: u16 = 0xAD86;
+/// OPCODE of a response to a registration, a release and a query (RFC 1002 section 4.2.1.1).
+const REGISTRATION: u16 = 5;
 
-/// NEGATIVE NAME RELEASE RESPONSE with ACT_ERR (RFC 1002 section 4.2.11).
-const REFUSED_RELEASE: u16 = 0xB406;
+const RELEASE: u16 = 6;
 
-/// POSITIVE NAME QUERY RESPONSE that has all entries (RFC 1002 section 4.2.13).
-const FOUND: u16 = 0x8580;
+const QUERY: u16 = 0;
 
 /// ACT_ERR (RFC 1002 section 4.2.6).
 const ACTIVE: u8 = 6;
@@ -55,21 +55,26 @@ pub(crate) enum ReplyKind {
 }
 
 /// Which reply these octets are, by their flags.
-pub(crate) fn kind_of(octets: &[u8]) -> ReplyKind {
+pub(crate) fn kind_of(octets: &[u8]) -> ReplyKind
+    ensures refusal { result ≢ ReplyKind.Refusal → ¬ RefusesUnique octets.now }
+    ensures release { result ≢ ReplyKind.ReleaseRefusal → (further : List FurtherRow) (ip : ℕ) → ¬ RefusesRelease further ip octets.now }
+    ensures found { result ≢ ReplyKind.Found → (further : List FurtherRow) (now : ℕ) → ¬ ListsHolder further now octets.now }
+{
     if octets.len() < FLAGS_END {
         return ReplyKind::Other;
     }
-    match read_word(octets, FLAGS) {
-        REFUSED_REGISTRATION => ReplyKind::Refusal,
-        REFUSED_RELEASE => ReplyKind::ReleaseRefusal,
-        FOUND => ReplyKind::Found,
+    let flags = read_word(octets, FLAGS);
+    match (flags / 0x800 % 16, flags % 16) {
+        (REGISTRATION, 6) => ReplyKind::Refusal,
+        (RELEASE, 6) => ReplyKind::ReleaseRefusal,
+        (QUERY, 0) => ReplyKind::Found,
         _ => ReplyKind::Other,
     }
 }
 
 /// Whether they refuse a unique name, since another has it.
 pub(crate) fn refuses_unique(octets: &[u8]) -> bool
-    ensures { IsTrue result → (r : Claimed) × Spells octets.now (registered active_error r) × (r.kind ≡ Unique) }
+    ensures { IsTrue result ↔ RefusesUnique octets.now }
 {
     match read(octets) {
         Some(
@@ -95,7 +100,8 @@ pub(crate) struct Release {
 
 /// The release that octets refuse, since another has the name, if they refuse one.
 pub(crate) fn release_in(octets: &[u8]) -> Option<Release>
-    ensures { IfSome result (λ r. Spells octets.now (released r.id active_error r.name r.kind r.addr)) }
+    ensures some { IfSome result (λ r. Spells octets.now (released r.id active_error r.name r.kind r.addr)) }
+    ensures none { IfNone result ((id : ℕ) (name : NameValue) (kind : KindValue) (addr : ℕ) → ¬ Spells octets.now (released id active_error name kind addr)) }
 {
     match read(octets)? {
         Message::Released {
@@ -177,11 +183,27 @@ fn list_of(
 ) -> bool
     ensures { IsTrue result → (holder : ℕ) × (entries.now ≡ entry Unique holder) × (listed.new.items ≡ take name_most (listed_at now name.now holder further.now)) × (listed.new.items ≢ []) }
 {
-    if entries.len() != ENTRY || entries[0] >= 0x80 {
+    let Some(holder) = holder_in(entries) else {
         return false;
-    }
-    further.list(now, name, read_long(entries, 2), listed);
+    };
+    further.list(now, name, holder, listed);
     !listed.is_empty()
+}
+
+/// The address of the one entry of a unique name that these are, if they are one.
+fn holder_in(entries: &[u8]) -> Option<u32>
+    ensures some { IfSome result (λ holder. entries.now ≡ entry Unique holder) }
+    ensures none { IfNone result ((holder : ℕ) → holder < 2 ^ 32 → entries.now ≢ entry Unique holder) }
+{
+    if entries.len() != ENTRY {
+        return None;
+    }
+    let holder = read_long(entries, 2);
+    if entries == entry_octets(Kind::Unique, holder).as_slice() {
+        Some(holder)
+    } else {
+        None
+    }
 }
 
 /// Puts the holder's entry and one for each of the addresses, so many in all at most. Returns whether some are left out.
