@@ -23,6 +23,9 @@ use Rattle.nbt_front.specs.FrontPort.{Fronted, FrontDoes}
 use Rattle.nbt_log.specs.Tallies.{no_tally}
 use Rattle.nbt_log.specs.declared.origin.Origin.{Origin}
 use Rattle.nbt_serve.specs.SambaPort.{HandsOn}
+use Rattle.nbt_asking.specs.Asking.{asks_nothing}
+use Rattle.nbt_asking.specs.Port.{AskingDoes, AskingPortValue, asking_port}
+use Rattle.nbt_nbns.specs.Asking.{AsksLast, AsksOn, CutsAsking, HearsNote}
 use Rattle.nbt_nbns.specs.Begin.{IsBegin, manner_at_first}
 use Rattle.nbt_nbns.specs.Journaling.{Journals}
 use Rattle.nbt_nbns.specs.Keeping.{KeeperValue, new_keeper}
@@ -39,14 +42,13 @@ use Rattle.nbt_nbns.specs.declared.arguments.NbnsArguments.{NbnsArguments}
 use Rattle.nbt_nbns.specs.declared.journal.Journal.{Journal}
 use Rattle.nbt_serve.specs.declared.fault.KeepFault.TheVariants as fault
 
--- the port beneath the front: over UDP, or over one on which Samba's registrations come as registrations
-abbrev pub BeneathDoes : (strict : Bool) → PortsValue → PortCall → PortsValue → Type 0
-BeneathDoes true = PortsDo
-BeneathDoes false = HandsOn PortsDo
+-- the port that a strict server has, before which its front stands
+abbrev pub StrictDoes : Fronted PortsValue → PortCall → Fronted PortsValue → Type 0
+StrictDoes = FrontDoes PortsDo
 
--- the port that the server has, before which its front stands
-abbrev pub PortDoes : (strict : Bool) → Fronted PortsValue → PortCall → Fronted PortsValue → Type 0
-PortDoes strict = FrontDoes (BeneathDoes strict)
+-- the port beneath that of a server that asks: Samba's registrations come as registrations there
+abbrev pub SambaDoes : Fronted PortsValue → PortCall → Fronted PortsValue → Type 0
+SambaDoes = FrontDoes (HandsOn PortsDo)
 
 -- how many of its calls have failed
 abbrev pub PortFailures : Fronted PortsValue → ℕ
@@ -93,31 +95,61 @@ new_journal a dates day start = record {
 abbrev pub Nbns : (C : Type 0) → Type 0
 Nbns C = Staying (Fronted PortsValue) Bool C ℕ (Journal ℕ FileValue)
 
-module _ {C : Type 0} (tells : C → ℕ → C → Type 0) (strict : Bool) (until : Option ℕ) where
+-- the same of a server that asks
+abbrev pub AskingNbns : (C : Type 0) → Type 0
+AskingNbns C = Staying (AskingPortValue (Fronted PortsValue)) Bool C ℕ (Journal ℕ FileValue)
+
+-- at first nothing waits, and nothing is confirmed
+abbrev pub asking_at_first : {C : Type 0} → (rows_per_client : ℕ) → Nbns C → AskingNbns C
+asking_at_first rows first = record {
+  served = record { port = asking_port first.served.port (asks_nothing rows); clock = first.served.clock; server = first.served.server; state = first.served.state };
+  day = first.day;
+  watcher = first.watcher;
+  text = first.text;
+}
+
+module _ {C : Type 0} (tells : C → ℕ → C → Type 0) (until : Option ℕ) where
   -- It stays up for good, or until its time is over.
   abbrev pub KeepsUntil : Nbns C → Nbns C → Type 0
   KeepsUntil old new =
-      StaysUntil (RenewsOn (PortDoes strict) PortFailures RenewsPort FolderDoes tells MachineTells (Journals MachineTells Stays) NotesNames until) (BreaksStaying (PortDoes strict) FolderDoes tells fault.Port)
-      (WatchesLast (PortDoes strict) PortFailures FolderDoes tells MachineTells (Journals MachineTells Stays) until) forever old new
+      StaysUntil (RenewsOn StrictDoes PortFailures RenewsPort FolderDoes tells MachineTells (Journals MachineTells Stays) NotesNames until) (BreaksStaying StrictDoes FolderDoes tells fault.Port)
+      (WatchesLast StrictDoes PortFailures FolderDoes tells MachineTells (Journals MachineTells Stays) until) forever old new
+
+  abbrev pub AsksUntil : AskingNbns C → AskingNbns C → Type 0
+  AsksUntil old new =
+      StaysUntil (AsksOn SambaDoes PortFailures RenewsPort FolderDoes tells MachineTells (Journals MachineTells Stays) HearsNote NotesNames until) (BreaksStaying (AskingDoes SambaDoes) FolderDoes tells fault.Port)
+      (AsksLast SambaDoes PortFailures FolderDoes tells MachineTells (Journals MachineTells Stays) HearsNote until) forever old new
 
   -- It ends before that: for the device it gives up, and the folder's failure cuts it off.
   abbrev pub KeepsNot : Fault → Nbns C → Nbns C → Type 0
   KeepsNot why old new =
-      EndsEarly (RenewsOn (PortDoes strict) PortFailures RenewsPort FolderDoes tells MachineTells (Journals MachineTells Stays) NotesNames until) (BreaksStaying (PortDoes strict) FolderDoes tells fault.Port)
-      (CutsStaying (PortDoes strict) PortFailures FolderDoes tells MachineTells (Journals MachineTells Stays)) forever why old new
+      EndsEarly (RenewsOn StrictDoes PortFailures RenewsPort FolderDoes tells MachineTells (Journals MachineTells Stays) NotesNames until) (BreaksStaying StrictDoes FolderDoes tells fault.Port)
+      (CutsStaying StrictDoes PortFailures FolderDoes tells MachineTells (Journals MachineTells Stays)) forever why old new
 
--- A server begins so, and is at first what `starts` says: the first line says how it begins, and it goes on from there.
-pub record Begins {C : Type 0} (starts : Manner → Nbns C → Type 0) (goes : Nbns C → Nbns C → Type 0) (old_text text : Option (List ℕ)) : Type 0 where
+  abbrev pub AsksNot : Fault → AskingNbns C → AskingNbns C → Type 0
+  AsksNot why old new =
+      EndsEarly (AsksOn SambaDoes PortFailures RenewsPort FolderDoes tells MachineTells (Journals MachineTells Stays) HearsNote NotesNames until) (BreaksStaying (AskingDoes SambaDoes) FolderDoes tells fault.Port)
+      (CutsAsking SambaDoes PortFailures FolderDoes tells MachineTells (Journals MachineTells Stays) HearsNote) forever why old new
+
+  -- It goes on so from what it is at first, whether it is strict or asks, and this is printed then.
+  abbrev pub GoesOn : (strict : Bool) → (rows_per_client : ℕ) → Nbns C → (text : Option (List ℕ)) → Type 0
+  GoesOn true rows first text = (last : Nbns C) × KeepsUntil first last × (last.text ≡ text)
+  GoesOn false rows first text = (last : AskingNbns C) × AsksUntil (asking_at_first rows first) last × (last.text ≡ text)
+
+  abbrev pub GoesNotOn : (strict : Bool) → (rows_per_client : ℕ) → Fault → Nbns C → (text : Option (List ℕ)) → Type 0
+  GoesNotOn true rows why first text = (last : Nbns C) × KeepsNot why first last × (last.text ≡ text)
+  GoesNotOn false rows why first text = (last : AskingNbns C) × AsksNot why (asking_at_first rows first) last × (last.text ≡ text)
+
+-- A server begins so, and is at first what `starts` says: the first line says how it begins, and it goes on from there, after which this is printed.
+pub record Begins {C : Type 0} (starts : Manner → Nbns C → Type 0) (goes : Nbns C → Option (List ℕ) → Type 0) (old_text text : Option (List ℕ)) : Type 0 where
   pub at : List Addr
   pub manner : Manner
   pub line : List ℕ
   pub first : Nbns C
-  pub last : Nbns C
   pub begins : starts manner first
   pub is_first : IsBegin at manner line
   pub printed : Appends old_text first.text line
-  pub goes_on : goes first last
-  pub text_is : last.text ≡ text
+  pub goes_on : goes first text
 
 -- the port at first, of whose front these leases stand in the way of fixed names
 abbrev pub port_at_first : NbnsArguments → (standing : Rows) → Fronted PortsValue
@@ -148,8 +180,8 @@ pub record StartsAnew (a : NbnsArguments) (manner : Manner) (first : Nbns ℕ) :
 
 -- it stays up, or its time is over
 abbrev pub RunsNbns : NbnsArguments → (old_text text : Option (List ℕ)) → Type 0
-RunsNbns a old_text text = Begins (StartsAnew a) (λ first. KeepsUntil (SteadyTells SystemShows) a.strict (until_of first.served.server.last a.time) first) old_text text
+RunsNbns a old_text text = Begins (StartsAnew a) (λ first. GoesOn (SteadyTells SystemShows) (until_of first.served.server.last a.time) a.strict a.rows_per_client first) old_text text
 
 -- it gives up
 abbrev pub NbnsFails : NbnsArguments → (old_text text : Option (List ℕ)) → Type 0
-NbnsFails a old_text text = Begins (StartsAnew a) (λ first. KeepsNot (SteadyTells SystemShows) a.strict (until_of first.served.server.last a.time) Device first) old_text text
+NbnsFails a old_text text = Begins (StartsAnew a) (λ first. GoesNotOn (SteadyTells SystemShows) (until_of first.served.server.last a.time) a.strict a.rows_per_client Device first) old_text text

@@ -7,7 +7,7 @@ use Rattle.nbt_port.specs.declared.fault.Fault.{Fault}
 use Rattle.nbt_log.specs.declared.dates.Dates.{Dates}
 use Rattle.nbt_server.specs.Calls.{limited}
 use Rattle.nbt_front.specs.Standing.{in_the_way}
-use Rattle.nbt_nbns.specs.Running.{Nbns, Begins, KeepsUntil, KeepsNot, RunsNbns, new_journal, port_at_first}
+use Rattle.nbt_nbns.specs.Running.{Nbns, Begins, GoesOn, GoesNotOn, RunsNbns, new_journal, port_at_first}
 use Rattle.nbt_nbns.specs.declared.first_line.Manner.{Manner}
 use Rattle.nbt_nbns.specs.declared.arguments.NbnsArguments.{NbnsArguments}
 use Rattle.nbt_nbns.specs.Begin.{manner_of}
@@ -56,10 +56,10 @@ pub record StartsKept (a : NbnsArguments) (state : StateFolder) (manner : Manner
   pub first_is : first ≡ kept_at_first a begun told.monotonic told.time first.text
 
 abbrev pub RunsKept : NbnsArguments → StateFolder → (old_text text : Option (List ℕ)) → Type 0
-RunsKept a state old_text text = Begins (StartsKept a state) (λ first. KeepsUntil (TellsAhead (SteadyTells SystemShows)) a.strict (until_of first.served.server.last a.time) first) old_text text
+RunsKept a state old_text text = Begins (StartsKept a state) (λ first. GoesOn (TellsAhead (SteadyTells SystemShows)) (until_of first.served.server.last a.time) a.strict a.rows_per_client first) old_text text
 
 abbrev pub KeptFails : NbnsArguments → StateFolder → Fault → (old_text text : Option (List ℕ)) → Type 0
-KeptFails a state why old_text text = Begins (StartsKept a state) (λ first. KeepsNot (TellsAhead (SteadyTells SystemShows)) a.strict (until_of first.served.server.last a.time) why first) old_text text
+KeptFails a state why old_text text = Begins (StartsKept a state) (λ first. GoesNotOn (TellsAhead (SteadyTells SystemShows)) (until_of first.served.server.last a.time) a.strict a.rows_per_client why first) old_text text
 
 -- the exit status of a server that ended so
 abbrev pub folder_status : Folder → ℕ

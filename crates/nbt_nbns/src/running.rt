@@ -1,11 +1,13 @@
 //! A name server over UDP, the system's clocks and its files.
 
-ghost use Rattle.std.specs.Prelude.{◌≡◌, Err, OnOk, IfErr};
+ghost use Rattle.std.specs.Prelude.{◌≡◌, Err, OnOk, IfErr, MatchBool};
 ghost use Rattle.nbt_port.specs.Numbers.{forever};
 ghost use Rattle.nbt_port.specs.Staying.{StaysUntil, EndsEarly};
 ghost use Rattle.nbt_port.specs.Udp.{PortsValue};
 ghost use Rattle.nbt_front.specs.FrontPort.{Fronted};
-ghost use Rattle.nbt_nbns.specs.Running.{PortDoes, PortFailures, RunsNbns, NbnsFails};
+ghost use Rattle.nbt_asking.specs.Port.{AskingDoes, AskingPortValue, asking_port};
+ghost use Rattle.nbt_nbns.specs.Asking.{AsksLast, AsksOn, CutsAsking};
+ghost use Rattle.nbt_nbns.specs.Running.{PortFailures, RunsNbns, SambaDoes, StrictDoes, NbnsFails};
 ghost use Rattle.nbt_nbns.specs.Renewing.{RenewsOn, RenewsPort};
 ghost use Rattle.nbt_nbns.specs.Staying.{BreaksStaying, CutsStaying, HasRoom, WatchesLast};
 ghost use Rattle.nbt_nbns.specs.Inner.Starting.{staying_of};
@@ -75,8 +77,8 @@ pub fn run_nbns<M: Net + time::Clock + RandomSource + Files, W: Write, E: Write>
     )
 }
 
-/// Keeps a server up until it ends, over this port as it is where that is `strict`, else over one on which Samba's registrations
-/// come as registrations, and behind this front.
+/// Keeps a server up until it ends, over this port as it is where that is `strict`, behind this front; else over one on which Samba's
+/// registrations come as registrations, and which asks machines for their addresses by this clock, which tells the times of the server's.
 pub(crate) fn keep_over<
     F: Clock + Drop,
     S: Store + Drop,
@@ -102,12 +104,20 @@ pub(crate) fn keep_over<
     errors: &mut E,
 ) -> Result<(), Fault>
     requires room { HasRoom started.state }
-    ensures ok { OnOk result ((last_port : Fronted PortsValue) × (last : Begun S C D V) × StaysUntil (RenewsOn (PortDoes strict) PortFailures RenewsPort S.does C.tells D.tells V.sees V.notes until)
-        (BreaksStaying (PortDoes strict) S.does C.tells fault.Port) (WatchesLast (PortDoes strict) PortFailures S.does C.tells D.tells V.sees until) forever
-        (staying_of (record { port = port.entry; desk = desk.entry }) started (W.contents writer.old)) (staying_of last_port last (W.contents writer.new))) }
-    ensures err { IfErr result (λ why. (last_port : Fronted PortsValue) × (last : Begun S C D V) × EndsEarly (RenewsOn (PortDoes strict) PortFailures RenewsPort S.does C.tells D.tells V.sees V.notes until)
-        (BreaksStaying (PortDoes strict) S.does C.tells fault.Port) (CutsStaying (PortDoes strict) PortFailures S.does C.tells D.tells V.sees) forever why
-        (staying_of (record { port = port.entry; desk = desk.entry }) started (W.contents writer.old)) (staying_of last_port last (W.contents writer.new))) }
+    ensures ok { OnOk result (MatchBool strict
+        ((last_port : Fronted PortsValue) × (last : Begun S C D V) × StaysUntil (RenewsOn StrictDoes PortFailures RenewsPort S.does C.tells D.tells V.sees V.notes until)
+        (BreaksStaying StrictDoes S.does C.tells fault.Port) (WatchesLast StrictDoes PortFailures S.does C.tells D.tells V.sees until) forever
+        (staying_of (record { port = port.entry; desk = desk.entry }) started (W.contents writer.old)) (staying_of last_port last (W.contents writer.new)))
+        ((last_port : AskingPortValue (Fronted PortsValue)) × (last : Begun S C D V) × StaysUntil (AsksOn SambaDoes PortFailures RenewsPort S.does C.tells D.tells V.sees V.hears V.notes until)
+        (BreaksStaying (AskingDoes SambaDoes) S.does C.tells fault.Port) (AsksLast SambaDoes PortFailures S.does C.tells D.tells V.sees V.hears until) forever
+        (staying_of (asking_port (record { port = port.entry; desk = desk.entry }) asking) started (W.contents writer.old)) (staying_of last_port last (W.contents writer.new)))) }
+    ensures err { IfErr result (λ why. MatchBool strict
+        ((last_port : Fronted PortsValue) × (last : Begun S C D V) × EndsEarly (RenewsOn StrictDoes PortFailures RenewsPort S.does C.tells D.tells V.sees V.notes until)
+        (BreaksStaying StrictDoes S.does C.tells fault.Port) (CutsStaying StrictDoes PortFailures S.does C.tells D.tells V.sees) forever why
+        (staying_of (record { port = port.entry; desk = desk.entry }) started (W.contents writer.old)) (staying_of last_port last (W.contents writer.new)))
+        ((last_port : AskingPortValue (Fronted PortsValue)) × (last : Begun S C D V) × EndsEarly (AsksOn SambaDoes PortFailures RenewsPort S.does C.tells D.tells V.sees V.hears V.notes until)
+        (BreaksStaying (AskingDoes SambaDoes) S.does C.tells fault.Port) (CutsAsking SambaDoes PortFailures S.does C.tells D.tells V.sees V.hears) forever why
+        (staying_of (asking_port (record { port = port.entry; desk = desk.entry }) asking) started (W.contents writer.old)) (staying_of last_port last (W.contents writer.new)))) }
 {
     let mut started = started;
     if strict {
@@ -208,6 +218,10 @@ fn ask_to_its_end<
     errors: &mut E,
 ) -> Result<(), Fault>
     requires room { HasRoom started.old.state }
+    ensures ok { OnOk result ((last : AskingPortValue P) × StaysUntil (AsksOn P.does P.failures P.renews S.does C.tells D.tells V.sees V.hears V.notes until) (BreaksStaying (AskingDoes P.does) S.does C.tells fault.Port)
+        (AsksLast P.does P.failures S.does C.tells D.tells V.sees V.hears until) forever (staying_of port started.old (W.contents writer.old)) (staying_of last started.new (W.contents writer.new))) }
+    ensures err { IfErr result (λ why. (last : AskingPortValue P) × EndsEarly (AsksOn P.does P.failures P.renews S.does C.tells D.tells V.sees V.hears V.notes until) (BreaksStaying (AskingDoes P.does) S.does C.tells fault.Port)
+        (CutsAsking P.does P.failures S.does C.tells D.tells V.sees V.hears) forever why (staying_of port started.old (W.contents writer.old)) (staying_of last started.new (W.contents writer.new))) }
 {
     let mut port = port;
     let ended = keep_asking(
