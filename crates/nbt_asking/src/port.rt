@@ -101,7 +101,7 @@ impl<P: Port + TellsFlags, C: Clock, I: Ids> AskingPort<P, C, I> {
     fn pass(&mut self, from: Option<Route>, octets: &mut ArrayVec<u8, 2048>) -> Option<Route>
         requires { length octets.old.items ≤ 2048 }
         ensures { (before : AskingPortValue P) → ¬ IsBack before.kept → self.old ≡ record before { port = self.old.port } → P.does before.port (receiving (Ok from) octets.old.items) self.old.port
-            → AskingDoes P.does before (receiving {E = Device} (Ok result) octets.new.items) self.new }
+            → AskingDoes P.does before (receiving (Ok result) octets.new.items) self.new }
     {
         let route = from?;
         let came = Came {

@@ -15,10 +15,10 @@ use std::io::Write;
 
 /// What watches a server that asks: it is told what came of each request that waited.
 pub trait TellsAsked {
-    ghost use Rattle.nbt_asking.specs.declared.tally.Note.{Note};
+    ghost use Rattle.nbt_asking.specs.declared.tally.Note.{Note as NoteValue};
 
     /// What that is: the watcher before, what came of the request, what was printed before, the watcher afterwards, and what is printed then.
-    ghost hears: { Self → Note → Option (List ℕ) → Self → Option (List ℕ) → Type 0 };
+    ghost hears: { Self → NoteValue → Option (List ℕ) → Self → Option (List ℕ) → Type 0 };
 
     /// This came of a request. What is printed of it goes to `writer`, and what can't be done about it is said in `errors`.
     fn tell_asked<W: Write, E: Write>(
