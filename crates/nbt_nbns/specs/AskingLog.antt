@@ -1,9 +1,12 @@
 -- The line of what came of a request that waited (our profile).
-use Rattle.std.specs.Prelude.{◌≡◌, ℕ, ◌++◌, List, [], codes}
+use Rattle.std.specs.Prelude.{◌≡◌, ℕ, nat_eq, if◌then◌else◌, List, [], ◌++◌, codes}
+use Rattle.nbt_name.specs.declared.addr.Kind.{Kind}
+use Rattle.nbt_name.specs.declared.addr.Kind.TheVariants.{Unique, Group}
+use Rattle.nbt_server.specs.declared.outcome.Claim.{Claim}
 use Rattle.nbt_asking.specs.declared.tally.Asked.{Asked}
 use Rattle.nbt_asking.specs.declared.tally.Asked.TheVariants as asked
 use Rattle.nbt_asking.specs.declared.tally.Note.{Note}
-use Rattle.nbt_log.specs.Lines.{left_text, seconds_part, place}
+use Rattle.nbt_log.specs.Lines.{IsHead, left_text, seconds_part}
 use Rattle.nbt_text.specs.Address.{dotted}
 
 -- what came of it
@@ -20,6 +23,17 @@ asked_verb asked.Released = codes " released "
 asked_verb asked.Unanswered = codes " not let in "
 asked_verb asked.Lost = codes " lost "
 
+-- what stands before the address that was asked
+abbrev pub asked_of : Asked → List ℕ
+asked_of asked.Refused = codes ": another machine has it: "
+asked_of asked.Told = codes " for the lease of "
+asked_of asked.Granted = codes " by "
+asked_of asked.NotOwn = codes ": not its own address: "
+asked_of asked.Full = codes ": too many further addresses: "
+asked_of asked.Unanswered = codes ": no answer of "
+asked_of asked.Lost = codes ": too many wait: "
+asked_of other = codes " of "
+
 -- the RCODE of a refusal
 abbrev pub asked_end : Asked → List ℕ
 asked_end asked.Refused = codes " (6)"
@@ -27,8 +41,14 @@ asked_end asked.NotOwn = codes " (5)"
 asked_end asked.Full = codes " (2)"
 asked_end other = []
 
--- The time, what came of it, whose request it was, the address that was asked, and how many lines were left out before it.
-pub record IsAskedLine (second : ℕ) (note : Note) (left_out : ℕ) (line : List ℕ) : Type 0 where
-  pub time : List ℕ
-  pub middle : List ℕ
-  pub line_is : line ≡ time ++ (asked_verb note.asked ++ (middle ++ (dotted note.of ++ (asked_end note.asked ++ left_text left_out))))
+-- for how many seconds it is, where it says that
+abbrev pub asked_seconds : ℕ → List ℕ
+asked_seconds seconds = if nat_eq seconds 0 then [] else seconds_part seconds
+
+abbrev pub claim_noted : Note → Claim
+claim_noted note = record { name = note.name; kind = note.kind; addr = note.addr }
+
+-- The time, what came of it, whose request it was, for how long, the address that was asked, and how many lines were left out before it.
+abbrev pub IsAskedLine : (second : ℕ) → Note → (left_out : ℕ) → List ℕ → Type 0
+IsAskedLine second note left_out line = (head : List ℕ) × IsHead second (asked_verb note.asked) (claim_noted note) head
+    × (line ≡ head ++ asked_seconds note.seconds ++ asked_of note.asked ++ dotted note.of ++ asked_end note.asked ++ left_text left_out)

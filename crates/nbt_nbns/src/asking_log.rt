@@ -1,14 +1,18 @@
 //! What the log has of requests that waited.
 
-ghost use Rattle.std.specs.Prelude.{◌≡◌, ◌++◌, ℕ, List, Option, OnOk};
+ghost use Rattle.std.specs.Prelude.{◌≡◌, ◌++◌, ℕ, List, Option, OnOk, codes};
+ghost use Rattle.nbt_log.specs.Lines.{left_text};
+ghost use Rattle.nbt_show.specs.Holders as spec;
+ghost use Rattle.nbt_text.specs.Address.{dotted};
 ghost use Rattle.std.specs.String.{string_bytes};
-ghost use Rattle.nbt_nbns.specs.AskingLog.{IsAskedLine, asked_verb, asked_end};
+ghost use Rattle.nbt_nbns.specs.AskingLog.{IsAskedLine, asked_end, asked_of, asked_seconds, asked_verb};
 
 use crate::journal::Journal;
 use nbt_asking::{Asked, Note};
 use nbt_lease::Moment;
 use nbt_log::{Limiter, write_time};
 use nbt_name::Kind;
+use nbt_show::kind_word;
 use nbt_text::{end_line, write_dotted, write_word};
 use std::alloc::AllocError;
 use std::io::Write;
@@ -85,9 +89,7 @@ pub fn write_asked(
     write_time(second, out)?;
     out.push_str(verb_of(note.asked))?;
     write_word(&note.name, out)?;
-    out.push_str(" ")?;
-    write_dotted(note.addr, out)?;
-    out.push_str(kind_of(note.kind))?;
+    write_claimed(note.addr, note.kind, out)?;
     write_seconds(note.seconds, out)?;
     out.push_str(before_of(note.asked))?;
     write_dotted(note.of, out)?;
@@ -115,7 +117,9 @@ fn verb_of(asked: Asked) -> &'static str
 }
 
 /// What stands before the address that was asked.
-fn before_of(asked: Asked) -> &'static str {
+fn before_of(asked: Asked) -> &'static str
+    ensures { result.now ≡ asked_of asked }
+{
     match asked {
         Asked::Waits => " of ",
         Asked::Confirmed | Asked::Reached | Asked::Released => " of ",
@@ -141,16 +145,20 @@ fn after_of(asked: Asked) -> &'static str
     }
 }
 
-/// The word of a kind.
-fn kind_of(kind: Kind) -> &'static str {
-    match kind {
-        Kind::Unique => " unique",
-        Kind::Group => " group",
-    }
+/// Appends the address for which a name is asked, and its kind, as ` 192.0.2.7 unique`.
+fn write_claimed(addr: u32, kind: Kind, out: &mut String) -> Result<(), AllocError>
+    ensures { OnOk result (string_bytes out.new ≡ string_bytes out.old ++ (codes " " ++ dotted addr ++ codes " " ++ spec.kind_word kind)) }
+{
+    out.push_str(" ")?;
+    write_dotted(addr, out)?;
+    let kind = kind_word(kind);
+    write!(out, " {kind}")
 }
 
 /// Appends for how many seconds it is, as ` 60 s`; nothing where that says nothing.
-fn write_seconds(seconds: u32, out: &mut String) -> Result<(), AllocError> {
+fn write_seconds(seconds: u32, out: &mut String) -> Result<(), AllocError>
+    ensures { OnOk result (string_bytes out.new ≡ string_bytes out.old ++ asked_seconds seconds) }
+{
     if seconds == 0 {
         return Ok(());
     }
@@ -158,7 +166,9 @@ fn write_seconds(seconds: u32, out: &mut String) -> Result<(), AllocError> {
 }
 
 /// Appends how many lines were left out, if any were, and the end of the line.
-fn write_left_out(left_out: u64, out: &mut String) -> Result<(), AllocError> {
+fn write_left_out(left_out: u64, out: &mut String) -> Result<(), AllocError>
+    ensures { OnOk result (string_bytes out.new ≡ string_bytes out.old ++ left_text left_out) }
+{
     if left_out == 0 {
         end_line(out)
     } else {
