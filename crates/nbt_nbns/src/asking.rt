@@ -5,7 +5,9 @@ ghost use Rattle.nbt_port.specs.Numbers.{forever};
 ghost use Rattle.nbt_port.specs.Staying.{StaysUntil, EndsEarly, Takes};
 ghost use Rattle.nbt_serve.specs.declared.fault.KeepFault.TheVariants as fault;
 ghost use Rattle.nbt_asking.specs.Port.{AskingDoes};
-ghost use Rattle.nbt_nbns.specs.Asking.{AsksBefore, AsksLast, AsksOn, CutsAsking};
+ghost use Rattle.nbt_port.specs.PortCalls.{Chain};
+ghost use Rattle.nbt_asking.specs.declared.tally.Note.{Note as Noted};
+ghost use Rattle.nbt_nbns.specs.Asking.{AsksBefore, AsksLast, AsksOn, CutsAsking, HearsOne};
 ghost use Rattle.nbt_nbns.specs.Staying.{BreaksStaying, HasRoom};
 
 use crate::asking_log::TellsAsked;
@@ -19,7 +21,6 @@ use arrayvec::ArrayVec;
 use nbt_asking::{AskingPort, Ids, TellsFlags};
 use nbt_front::{Front, FrontSource};
 use nbt_lease::{Lease, Moment};
-use nbt_log::Limiter;
 use nbt_name::Name;
 use nbt_port::{Clock, FOREVER, Fault, Port, Turn, Turned, stay_up};
 use nbt_serve::KeepFault;
@@ -130,10 +131,6 @@ pub fn keep_asking<
         shown,
         full: FullNotes::new(),
         barred: BarredNotes::new(),
-        notes: AskedNotes {
-            limiter: Limiter::new(),
-            line: String::new(alloc),
-        },
         alloc,
     };
     stay_up(&mut turn, FOREVER, machine, errors)
@@ -157,7 +154,6 @@ struct AskingTurn<'p, 'c, 's, 'k, 'd, 'v, 'r, 'w, 'b, P, F, I, S, C, D, V, R, W>
     shown: Shown,
     full: FullNotes,
     barred: BarredNotes,
-    notes: AskedNotes,
     alloc: Global,
     ghost room: { HasRoom kept.now },
 }
@@ -212,7 +208,6 @@ impl<
             &mut self.shown,
             &mut self.full,
             &mut self.barred,
-            &mut self.notes,
             errors,
         );
         if let Turned::Well = turned {
@@ -231,13 +226,6 @@ impl<
     }
 }
 
-/// How many lines of requests that waited may be printed, and a buffer for one.
-#[derive(Debug, Drop)]
-struct AskedNotes {
-    limiter: Limiter,
-    line: String,
-}
-
 /// How many notes are told after a turn at most (our profile): as many as wait.
 const NOTES_MOST: usize = 64;
 
@@ -245,23 +233,18 @@ const NOTES_MOST: usize = 64;
 fn tell_notes<P, F, I, V: TellsAsked, W: Write, E: Write>(
     port: &mut AskingPort<P, F, I>,
     watcher: &mut V,
-    notes: &mut AskedNotes,
     at: Moment,
     writer: &mut W,
     errors: &mut E,
-) {
+)
+    ensures port { port.new ≡ port.old }
+    ensures heard { (notes : List Noted) × Chain (HearsOne V.hears) (record { watcher = watcher.old; text = W.contents writer.old }) notes (record { watcher = watcher.new; text = W.contents writer.new }) }
+{
     for _ in 0..NOTES_MOST {
         let Some(note) = port.asking.take_note() else {
             return;
         };
-        watcher.tell_asked(
-            &note,
-            &mut notes.limiter,
-            &mut notes.line,
-            at,
-            writer,
-            errors,
-        );
+        watcher.tell_asked(&note, at, writer, errors);
     }
 }
 
@@ -292,7 +275,6 @@ fn take_asking<
     shown: &mut Shown,
     full: &mut FullNotes,
     barred: &mut BarredNotes,
-    notes: &mut AskedNotes,
     errors: &mut E,
 ) -> Turned
     requires room { HasRoom state.old }
@@ -315,7 +297,7 @@ fn take_asking<
     port.attend(server, octets.as_slice(), &mut shown.entry);
     port.tell_changes(errors);
     let at = shown.at;
-    tell_notes(port, watcher, notes, at, writer, errors);
+    tell_notes(port, watcher, at, writer, errors);
     let is_full = full.tell(state, at, errors);
     barred.tell(state, is_full, at, errors);
     show(state, server, sent, shown, watcher, writer, errors);

@@ -10,7 +10,7 @@ ghost use Rattle.nbt_nbns.specs.AskingLog.{IsAskedLine, asked_end, asked_of, ask
 use crate::journal::Journal;
 use nbt_asking::{Asked, Note};
 use nbt_lease::Moment;
-use nbt_log::{Limiter, write_time};
+use nbt_log::write_time;
 use nbt_name::Kind;
 use nbt_show::kind_word;
 use nbt_text::{end_line, write_dotted, write_word};
@@ -24,12 +24,10 @@ pub trait TellsAsked {
     /// What that is: the watcher before, what came of the request, what was printed before, the watcher afterwards, and what is printed then.
     ghost hears: { Self → NoteValue → Option (List ℕ) → Self → Option (List ℕ) → Type 0 };
 
-    /// This came of a request. What is printed of it goes to `writer`, and what can't be done about it is said in `errors`.
+    /// This came of a request, by this moment. What is printed of it goes to `writer`, and what can't be done about it is said in `errors`.
     fn tell_asked<W: Write, E: Write>(
         &mut self,
         note: &Note,
-        limiter: &mut Limiter,
-        line: &mut String,
         at: Moment,
         writer: &mut W,
         errors: &mut E,
@@ -45,8 +43,6 @@ impl<D, L> TellsAsked for Journal<D, L> {
     fn tell_asked<W: Write, E: Write>(
         &mut self,
         note: &Note,
-        limiter: &mut Limiter,
-        line: &mut String,
         at: Moment,
         writer: &mut W,
         errors: &mut E,
@@ -54,21 +50,13 @@ impl<D, L> TellsAsked for Journal<D, L> {
         if !has_line(note.asked) {
             return;
         }
-        let second = self.dates.second_at(at.get());
-        let Some(logger) = &mut self.log else {
-            return;
-        };
-        let Some(left_out) = limiter.take(at) else {
-            return;
-        };
-        line.clear();
-        if write_asked(second, note, left_out, line).is_ok() {
-            logger.log_line(line.as_str(), writer, errors);
+        if let Some(logger) = &mut self.log {
+            logger.log_asked(&self.dates, note, at, writer, errors);
         }
     }
 }
 
-/// Whether there is a line of it: what the server grants has a line of its own, and so has what it refuses.
+/// Whether there is a line of it: what the server is let grant has the server's own line.
 fn has_line(asked: Asked) -> bool {
     match asked {
         Asked::Granted => false,

@@ -2,12 +2,17 @@
 
 ghost use Rattle.std.specs.Prelude.{◌≡◌, [], ◌++◌, ℕ, List, IsTrue, OnOk};
 ghost use Rattle.std.specs.String.{string_bytes};
+ghost use Rattle.nbt_nbns.specs.AskingLog.{IsAskedLine};
 ghost use Rattle.nbt_nbns.specs.Logging.{Logs, Prints, new_logger};
+ghost use Rattle.nbt_nbns.specs.Outboxes.{Sends};
 
+use crate::asking_log::write_asked;
 use crate::complaint::Complaint;
 use crate::outbox::Outbox;
 use crate::staying::Shown;
-use nbt_log::{Dates, Limiters, write_entry, write_summary};
+use nbt_asking::Note;
+use nbt_lease::Moment;
+use nbt_log::{Dates, Limiter, Limiters, write_entry, write_summary};
 use std::alloc::{AllocError, Global};
 use std::io;
 use std::io::Write;
@@ -20,6 +25,7 @@ pub struct Logger {
     line: String,
     broadcasts: bool,
     limiters: Limiters,
+    asked: Limiter,
     outbox: Outbox,
     complaint: Complaint,
 }
@@ -42,6 +48,7 @@ impl Logger {
             line: String::new(alloc),
             broadcasts,
             limiters: Limiters::new(most),
+            asked: Limiter::of(most),
             outbox: Outbox::new(alloc),
             complaint: Complaint::new(),
         }
@@ -81,25 +88,44 @@ impl Logger {
         }
     }
 
-    /// Prints a line of another kind, at once, and what waits of the lines before it, with the same care. Returns whether that was done.
-    pub fn log_line<W: Write, E: Write>(
+    /// Prints the line of what came of a request that waited, with the same care; of these at most so many in any second too.
+    pub fn log_asked<W: Write, E: Write>(
         &mut self,
-        line: &str,
+        dates: &Dates,
+        note: &Note,
+        at: Moment,
         writer: &mut W,
         errors: &mut E,
-    ) -> bool {
-        match self.outbox.send(line, writer) {
+    )
+        ensures { self.new ≡ record self.old { outbox = self.new.outbox } }
+    {
+        let Some(left_out) = self.asked.take(at) else {
+            return;
+        };
+        match self.print_asked(dates.second_at(at.get()), note, left_out, writer) {
             Ok(()) => {
                 if self.outbox.is_empty() {
                     self.complaint.end("the log", errors);
                 }
-                true
             }
-            Err(error) => {
-                self.complaint.tell("the log", error, errors);
-                false
-            }
+            Err(error) => self.complaint.tell("the log", error, errors),
         }
+    }
+
+    /// Prints that line.
+    fn print_asked<W: Write>(
+        &mut self,
+        second: u64,
+        note: &Note,
+        left_out: u64,
+        writer: &mut W,
+    ) -> io::Result<()>
+        ensures same { self.new ≡ record self.old { outbox = self.new.outbox } }
+        ensures line { OnOk result ((line : List ℕ) × IsAskedLine second note.now left_out line × Sends self.old.outbox line (W.contents writer.old) self.new.outbox (W.contents writer.new)) }
+    {
+        self.line.clear();
+        write_asked(second, note, left_out, &mut self.line)?;
+        self.outbox.send(self.line.as_str(), writer)
     }
 
     /// Prints the line, where it may be printed.
