@@ -2,4 +2,5 @@ pub mod Inner
 pub mod Asking
 pub mod Port
 pub mod Attending
+pub mod Notes
 pub mod Laws

@@ -240,7 +240,10 @@ impl Asking {
     {
         let mut request = served.request;
         match served.outcome {
-            Outcome::Refuse => Some(self.answer(request, Asked::Refused, ACTIVE, out)),
+            Outcome::Refuse => {
+                let holder = holder_of(table, now, &request);
+                Some(self.answer(request, holder, Asked::Refused, ACTIVE, out))
+            }
             Outcome::AskRequester => {
                 request.awaits = Awaits::Requester;
                 request.asked = request.from.ip;
@@ -257,7 +260,7 @@ impl Asking {
                 self.grant(request);
                 None
             }
-            Outcome::NotOwn => Some(self.answer(request, Asked::NotOwn, REFUSED, out)),
+            Outcome::NotOwn => Some(self.answer(request, 0, Asked::NotOwn, REFUSED, out)),
             Outcome::Reached => {
                 self.further.reach(&request.name, request.addr);
                 self.note(Asked::Reached, &request, 0);
@@ -308,7 +311,7 @@ impl Asking {
             return None;
         };
         if self.is_full(table, now, &request.name, request.addr) {
-            return Some(self.answer(request, Asked::Full, SERVER_ERROR, out));
+            return Some(self.answer(request, 0, Asked::Full, SERVER_ERROR, out));
         }
         let until = until_of(table, now, request.ttl);
         match self.further.put(now, &confirmed, until, lease_end) {
@@ -316,7 +319,7 @@ impl Asking {
                 Some(self.accept(now, request, until.min(lease_end), out))
             }
             Put::NameFull | Put::Full => {
-                Some(self.answer(request, Asked::Full, SERVER_ERROR, out))
+                Some(self.answer(request, 0, Asked::Full, SERVER_ERROR, out))
             }
         }
     }
@@ -357,10 +360,11 @@ impl Asking {
         }
     }
 
-    /// A negative reply.
+    /// A negative reply, since this address has the name, or none is named.
     fn answer(
         &mut self,
         request: Request,
+        holder: u32,
         asked: Asked,
         rcode: u8,
         out: &mut ArrayVec<u8, 576>,
@@ -370,7 +374,9 @@ impl Asking {
         ensures same { self.new ≡ self.old }
     {
         write_reply(&request, rcode, 0, out);
-        self.note(asked, &request, 0);
+        let mut note = note_of(asked, request.name.copy(), &request, 0);
+        note.of = holder;
+        self.keep_note(note);
         Leaving {
             to: route_of(&request),
             also: None,
@@ -517,6 +523,10 @@ impl Asking {
         if is_there {
             self.keep_note(Note {
                 asked: Asked::Released,
+                from: Addr {
+                    ip: addr,
+                    port: NAME_PORT,
+                },
                 name: name.copy(),
                 kind: Kind::Unique,
                 addr,
@@ -573,6 +583,7 @@ impl Asking {
 fn note_of(asked: Asked, name: Name, request: &Request, seconds: u32) -> Note {
     Note {
         asked,
+        from: request.from,
         name,
         kind: request.kind,
         addr: request.addr,
@@ -586,6 +597,16 @@ fn is_of(lease: &Lease, holder: u32) -> bool
     ensures { IsTrue result ↔ ((lease.now.kind ≡ Unique) × (lease.now.addr ≡ holder)) }
 {
     lease.kind == Kind::Unique && lease.addr == holder
+}
+
+/// The address of the first lease of a request's name; the one that was asked where there is none.
+fn holder_of(table: &Table, now: Moment, request: &Request) -> u32
+    requires { table.now.last ≤ now }
+{
+    match table.members(now, &request.name).next() {
+        Some(lease) => lease.addr,
+        None => request.asked,
+    }
 }
 
 /// The expiry of this address's lease of a unique name; none if it has none.

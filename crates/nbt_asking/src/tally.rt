@@ -1,6 +1,11 @@
 //! What a server that asks made of the requests that waited.
 
-use nbt_name::{Kind, Name};
+ghost use Rattle.std.specs.Prelude.{◌≡◌};
+ghost use Rattle.nbt_asking.specs.Notes.{refusal_of};
+
+use nbt_log::Entry;
+use nbt_name::{Addr, Kind, Name};
+use nbt_server::{Claim, Outcome, Refusal};
 
 /// What came of a request that waited, or was looked at.
 #[derive(Clone, Copy, Debug, PartialEq, Eq)]
@@ -34,16 +39,43 @@ pub enum Asked {
 pub struct Note {
     /// What came of it.
     pub asked: Asked,
+    /// The endpoint that sent it.
+    pub from: Addr,
     /// The name.
     pub name: Name,
     /// Unique, or a group's.
     pub kind: Kind,
     /// The 32-bit address that the request is for.
     pub addr: u32,
-    /// The 32-bit address that is or was asked.
+    /// The 32-bit address that is or was asked; where another machine has the name, that of its lease.
     pub of: u32,
     /// For how many seconds; 0 where that says nothing.
     pub seconds: u32,
+}
+
+impl Note {
+    /// What the log and the statistics have of a request that was refused after it waited: the same as of one that the server refused at once.
+    pub fn refusal(&self) -> Option<Entry>
+        ensures { result ≡ refusal_of self.now }
+    {
+        let refusal = match self.asked {
+            Asked::Refused => Refusal::Active(self.of),
+            Asked::NotOwn => Refusal::NotOwn,
+            Asked::Full => Refusal::ClientFull,
+            _ => return None,
+        };
+        let claim = Claim {
+            name: self.name.copy(),
+            kind: self.kind,
+            addr: self.addr,
+        };
+        Some(Entry {
+            from: self.from,
+            count: 0,
+            is_broadcast: false,
+            outcome: Outcome::Refused(claim, refusal),
+        })
+    }
 }
 
 /// How many requests came to what.

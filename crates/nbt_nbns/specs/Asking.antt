@@ -12,7 +12,9 @@ use Rattle.nbt_serve.specs.declared.waiting.Sent.{Sent}
 use Rattle.nbt_serve.specs.declared.fault.KeepFault.TheVariants as fault
 use Rattle.nbt_asking.specs.Port.{AskingPortValue, AskingDoes}
 use Rattle.nbt_asking.specs.Attending.{Attends}
+use Rattle.nbt_asking.specs.Notes.{refusal_of}
 use Rattle.nbt_asking.specs.declared.tally.Note.{Note}
+use Rattle.nbt_server.specs.Serving.{ServerValue}
 use Rattle.nbt_nbns.specs.Renewing.{RenewsFront}
 use Rattle.nbt_nbns.specs.Staying.{Staying, Turns, BreaksStaying, TellsAfter, SeesTurn, LooksAfterState, FailsToLookAfter, IsIdle}
 use Rattle.nbt_nbns.specs.Teller.{Sight, Seeing}
@@ -32,8 +34,13 @@ Hearing V = V → Note → (old_text : Option (List ℕ)) → V → (text : Opti
 abbrev pub HearsNote : {D L : Type 0} → Journal D L → Note → (old_text : Option (List ℕ)) → Journal D L → (text : Option (List ℕ)) → Type 0
 HearsNote old note old_text new text = new ≡ record old { log = new.log }
 
-abbrev pub HearsOne : {V : Type 0} → Hearing V → Seeing V → Note → Seeing V → Type 0
-HearsOne hears old note new = hears old.watcher note old.text new.watcher new.text
+-- It hears what came of a request, or is shown its refusal as every other.
+abbrev pub HearsAs : {V : Type 0} → Sight V → Hearing V → ServerValue → Shown → Option Entry → Seeing V → Note → Seeing V → Type 0
+HearsAs sees hears server shown None old note new = hears old.watcher note old.text new.watcher new.text
+HearsAs sees hears server shown (Some entry) old note new = sees old.watcher server (record shown { entry = Some entry }) old.text new.watcher new.text
+
+abbrev pub HearsOne : {V : Type 0} → Sight V → Hearing V → ServerValue → Shown → Seeing V → Note → Seeing V → Type 0
+HearsOne sees hears server shown old note new = HearsAs sees hears server shown (refusal_of note) old note new
 
 module _ {P S C D V : Type 0} (does : P → PortCall → P → Type 0) (failures : P → ℕ) (keeps : S → StoreCall → S → Type 0) (tells : C → ℕ → C → Type 0) (days : D → ℕ → D → Type 0) (sees : Sight V) (hears : Hearing V) where
   -- A turn goes well, and then what is due is done with the requests that wait: the server stays as its turn made it. The watcher hears what came of
@@ -52,7 +59,7 @@ module _ {P S C D V : Type 0} (does : P → PortCall → P → Type 0) (failures
     pub entry_is : (shown.entry ≡ entry) ⊎ (shown.entry ≡ None)
     pub notes : List Note
     pub heard : Seeing V
-    pub hears_notes : Chain (HearsOne hears) (record { watcher = old.watcher; text = old.text }) notes heard
+    pub hears_notes : Chain (HearsOne sees hears new.served.server shown) (record { watcher = old.watcher; text = old.text }) notes heard
     pub seen : SeesTurn sees new.served.server sent shown turned heard new.served.state (record { watcher = new.watcher; text = new.text })
 
   -- Then the file of its state is looked after.

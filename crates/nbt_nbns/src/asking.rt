@@ -18,7 +18,7 @@ use crate::renewing::{NotesFixed, Renewable, look_for_front};
 use crate::state::{State, show, tell_store};
 use crate::staying::{Shown, Watcher};
 use arrayvec::ArrayVec;
-use nbt_asking::{AskingPort, Ids, TellsFlags};
+use nbt_asking::{AskingPort, Ids, Note, TellsFlags};
 use nbt_front::{Front, FrontSource};
 use nbt_lease::{Lease, Moment};
 use nbt_name::Name;
@@ -229,22 +229,47 @@ impl<
 /// How many notes are told after a turn at most (our profile): as many as wait.
 const NOTES_MOST: usize = 64;
 
-/// Tells the watcher what came of the requests that waited.
-fn tell_notes<P, F, I, V: TellsAsked, W: Write, E: Write>(
+/// Tells the watcher what came of the requests that waited; of one that was refused what it is shown of every refusal.
+fn tell_notes<P, F, I, V: Watcher + TellsAsked, W: Write, E: Write>(
     port: &mut AskingPort<P, F, I>,
+    server: &Server,
+    shown: &Shown,
     watcher: &mut V,
-    at: Moment,
     writer: &mut W,
     errors: &mut E,
 )
     ensures port { port.new ≡ port.old }
-    ensures heard { (notes : List Noted) × Chain (HearsOne V.hears) (record { watcher = watcher.old; text = W.contents writer.old }) notes (record { watcher = watcher.new; text = W.contents writer.new }) }
+    ensures heard { (notes : List Noted) × Chain (HearsOne V.sees V.hears server.now shown.now) (record { watcher = watcher.old; text = W.contents writer.old }) notes (record { watcher = watcher.new; text = W.contents writer.new }) }
 {
     for _ in 0..NOTES_MOST {
         let Some(note) = port.asking.take_note() else {
             return;
         };
-        watcher.tell_asked(&note, at, writer, errors);
+        tell_note(&note, server, shown, watcher, writer, errors);
+    }
+}
+
+/// Tells the watcher of one.
+fn tell_note<V: Watcher + TellsAsked, W: Write, E: Write>(
+    note: &Note,
+    server: &Server,
+    shown: &Shown,
+    watcher: &mut V,
+    writer: &mut W,
+    errors: &mut E,
+)
+    ensures { HearsOne V.sees V.hears server.now shown.now (record { watcher = watcher.old; text = W.contents writer.old }) note.now (record { watcher = watcher.new; text = W.contents writer.new }) }
+{
+    match note.refusal() {
+        Some(entry) => {
+            let refused = Shown {
+                entry: Some(entry),
+                at: shown.at,
+                health: shown.health,
+            };
+            watcher.see(server, &refused, writer, errors);
+        }
+        None => watcher.tell_asked(note, shown.at, writer, errors),
     }
 }
 
@@ -297,7 +322,7 @@ fn take_asking<
     port.attend(server, octets.as_slice(), &mut shown.entry);
     port.tell_changes(errors);
     let at = shown.at;
-    tell_notes(port, watcher, at, writer, errors);
+    tell_notes(port, server, shown, watcher, writer, errors);
     let is_full = full.tell(state, at, errors);
     barred.tell(state, is_full, at, errors);
     show(state, server, sent, shown, watcher, writer, errors);

@@ -5,7 +5,7 @@ ghost use Rattle.nbt_log.specs.Lines.{left_text};
 ghost use Rattle.nbt_show.specs.Holders as spec;
 ghost use Rattle.nbt_text.specs.Address.{dotted};
 ghost use Rattle.std.specs.String.{string_bytes};
-ghost use Rattle.nbt_nbns.specs.AskingLog.{IsAskedLine, asked_end, asked_of, asked_seconds, asked_verb};
+ghost use Rattle.nbt_nbns.specs.AskingLog.{IsAskedLine, asked_of, asked_seconds, asked_verb};
 
 use crate::journal::Journal;
 use nbt_asking::{Asked, Note};
@@ -56,12 +56,12 @@ impl<D, L> TellsAsked for Journal<D, L> {
     }
 }
 
-/// Whether there is a line of it: what the server is let grant has the server's own line.
+/// Whether there is a line of it: what is granted and what is refused has the line of every grant and refusal.
 fn has_line(asked: Asked) -> bool {
-    match asked {
-        Asked::Granted => false,
-        _ => true,
-    }
+    !matches!(
+        asked,
+        Asked::Granted | Asked::Refused | Asked::NotOwn | Asked::Full
+    )
 }
 
 /// Appends the line of what came of a request, in a second since 1970: as `2026-11-24T09:12:03Z further NODEM#20 198.18.137.5 unique 60 s of
@@ -81,7 +81,6 @@ pub fn write_asked(
     write_seconds(note.seconds, out)?;
     out.push_str(before_of(note.asked))?;
     write_dotted(note.of, out)?;
-    out.push_str(after_of(note.asked))?;
     write_left_out(left_out, out)
 }
 
@@ -93,14 +92,11 @@ fn verb_of(asked: Asked) -> &'static str
         Asked::Waits => " asking about ",
         Asked::Confirmed => " further ",
         Asked::Reached => " listed ",
-        Asked::Refused => " refused ",
         Asked::Told => " told to wait ",
-        Asked::Granted => " let in ",
-        Asked::NotOwn => " refused ",
-        Asked::Full => " refused ",
         Asked::Released => " released ",
         Asked::Unanswered => " not let in ",
         Asked::Lost => " lost ",
+        _ => " let in ",
     }
 }
 
@@ -109,27 +105,10 @@ fn before_of(asked: Asked) -> &'static str
     ensures { result.now ≡ asked_of asked }
 {
     match asked {
-        Asked::Waits => " of ",
-        Asked::Confirmed | Asked::Reached | Asked::Released => " of ",
-        Asked::Refused => ": another machine has it: ",
         Asked::Told => " for the lease of ",
-        Asked::Granted => " by ",
-        Asked::NotOwn => ": not its own address: ",
-        Asked::Full => ": too many further addresses: ",
         Asked::Unanswered => ": no answer of ",
         Asked::Lost => ": too many wait: ",
-    }
-}
-
-/// What stands behind it: the RCODE of a refusal.
-fn after_of(asked: Asked) -> &'static str
-    ensures { result.now ≡ asked_end asked }
-{
-    match asked {
-        Asked::Refused => " (6)",
-        Asked::NotOwn => " (5)",
-        Asked::Full => " (2)",
-        _ => "",
+        _ => " of ",
     }
 }
 
