@@ -8,6 +8,7 @@ use Rattle.nbt_name.specs.declared.addr.Kind.{Kind}
 use Rattle.nbt_name.specs.declared.addr.Kind.TheVariants.{Unique}
 use Rattle.nbt_packet.specs.declared.message.Registration.{Registration}
 use Rattle.nbt_packet.specs.Message.{IsRequest, opcode_of, registration, refresh, registered, released, found}
+use Rattle.nbt_packet.specs.Packet.{PacketIs, PacketValue, RecordValue}
 use Rattle.nbt_packet.specs.Spelling.{Spells}
 use Rattle.nbt_packet.specs.Text.{text, entry, entries_most}
 use Rattle.nbt_port.specs.declared.port.Route.{Route}
@@ -43,12 +44,16 @@ unasked = 0
 
 -- ---- what comes
 
+-- The entry of a claim is written as a P node writes it: our nodes do.
+abbrev pub IsByPNode : (octets : List ℕ) → Registration → Type 0
+IsByPNode octets r = (packet : PacketValue) × (n : ℕ) × (additional : RecordValue) × PacketIs octets packet n × (packet.additional ≡ Some additional) × (additional.rdata ≡ entry r.kind r.addr)
+
 -- A datagram is looked at first: a response to a query, from the port of the name service, while an inquiry is under way; a request of OPCODE 15
--- that another port made a registration of; and a refresh for another address than the one that sent it.
+-- that another port made a registration of; and a refresh for another address than the one that sent it, or by another kind of node than a P node.
 pub data IsAside (is_asking : Bool) (c : Came) (octets : List ℕ) : Type 0 where
   response : is_asking ≡ true → ¬ IsRequest c.flags → c.from.port ≡ name_port → opcode_of c.flags ≡ 0 → IsAside is_asking c octets
   by_opcode : (r : Registration) → IsRequest c.flags → opcode_of c.flags ≡ multi_homed → Spells octets (registration r) → IsAside is_asking c octets
-  for_another : (r : Registration) → IsRequest c.flags → (opcode_of c.flags ≡ 8) ⊎ (opcode_of c.flags ≡ 9) → Spells octets (refresh r) → r.addr ≢ c.from.ip → IsAside is_asking c octets
+  by_refresh : (r : Registration) → IsRequest c.flags → (opcode_of c.flags ≡ 8) ⊎ (opcode_of c.flags ≡ 9) → Spells octets (refresh r) → (r.addr ≢ c.from.ip) ⊎ (¬ IsByPNode octets r) → IsAside is_asking c octets
 
 -- nobody is to have the reply where nobody sent the request
 abbrev pub quiet_by : Came → Option Addr → Option Addr

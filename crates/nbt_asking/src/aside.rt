@@ -1,18 +1,18 @@
 //! A datagram that is kept from the server.
 
-ghost use Rattle.std.specs.Prelude.{◌≡◌, ◌≢◌, ◌↔◌, ◌≤◌, ℕ, List, IfNone, IfSome, IsTrue, length};
+ghost use Rattle.std.specs.Prelude.{◌≡◌, ◌≢◌, ◌↔◌, ◌⊎◌, ◌≤◌, ℕ, List, IfNone, IfSome, IsTrue, length};
 ghost use Rattle.nbt_packet.specs.declared.message.Registration.{Registration as Claimed};
 ghost use Rattle.nbt_packet.specs.Message.{opcode_of, refresh, registration};
 ghost use Rattle.nbt_packet.specs.Spelling.{Spells};
 ghost use Rattle.nbt_confirm.specs.declared.request.Came.{Came as Ways};
 ghost use Rattle.nbt_asking.specs.Asking.{aside, back, nothing};
-ghost use Rattle.nbt_asking.specs.Port.{IsAside, IsBack};
+ghost use Rattle.nbt_asking.specs.Port.{IsAside, IsBack, IsByPNode};
 ghost use Rattle.nbt_asking.specs.Inner.Placing.{IsLookedAt};
 
 use arrayvec::ArrayVec;
 use nbt_confirm::{Came, NAME_PORT};
 use nbt_name::Addr;
-use nbt_packet::{Message, read};
+use nbt_packet::{Message, Registration, decode, entry_octets, read};
 use std::marker::Model;
 
 /// OPCODE of a multi-homed registration (our profile: RFC 1002 section 4.2.1.1 doesn't list it).
@@ -130,7 +130,7 @@ impl Aside {
 
 /// Whether a datagram with these flags is set aside: a response to a query, from the port of the name service, where an inquiry is
 /// under way; what came as a request of OPCODE 15, and spells a registration now; and a refresh for another address than the one that sent
-/// it, as it comes from behind a masquerade.
+/// it, as it comes from behind a masquerade, or by another kind of node than a P node, as nmbd is. Our nodes are P nodes.
 pub(crate) fn is_aside(came: Came, octets: &[u8], is_asking: bool) -> bool
     ensures { IsTrue result ↔ IsAside is_asking came octets.now }
 {
@@ -139,7 +139,7 @@ pub(crate) fn is_aside(came: Came, octets: &[u8], is_asking: bool) -> bool
     }
     match opcode_of(came.flags) {
         MULTI_HOMED => is_registration(octets),
-        REFRESH | REFRESH_TOO => is_refresh_for_another(came.from.ip, octets),
+        REFRESH | REFRESH_TOO => is_refresh_to_ask(came.from.ip, octets),
         _ => false,
     }
 }
@@ -151,13 +151,26 @@ fn opcode_of(flags: u16) -> u16
     flags / 0x800 % 16
 }
 
-/// Whether octets spell a refresh for another address than this.
-fn is_refresh_for_another(ip: u32, octets: &[u8]) -> bool
-    ensures { IsTrue result ↔ ((r : Claimed) × Spells octets.now (refresh r) × (r.addr ≢ ip)) }
+/// Whether octets spell a refresh for another address than this, or by another kind of node than a P node.
+fn is_refresh_to_ask(ip: u32, octets: &[u8]) -> bool
+    ensures { IsTrue result ↔ ((r : Claimed) × Spells octets.now (refresh r) × ((r.addr ≢ ip) ⊎ (¬ IsByPNode octets.now r))) }
 {
     match read(octets) {
-        Some(Message::Refresh(claim)) => claim.addr != ip,
+        Some(Message::Refresh(claim)) => claim.addr != ip || !is_by_p_node(octets, &claim),
         _ => false,
+    }
+}
+
+/// Whether the entry of a claim has the NB_FLAGS of a P node (RFC 1002 section 4.2.1.3).
+fn is_by_p_node(octets: &[u8], claim: &Registration<'_>) -> bool
+    ensures { IsTrue result ↔ IsByPNode octets.now claim.now }
+{
+    let Ok((packet, _)) = decode(octets) else {
+        return false;
+    };
+    match packet.additional {
+        Some(record) => record.rdata == entry_octets(claim.kind, claim.addr).as_slice(),
+        None => false,
     }
 }
 

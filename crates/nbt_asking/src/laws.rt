@@ -2,7 +2,7 @@
 //! the code's numbers are theirs.
 
 ghost use Rattle.std.specs.Prelude.{◌≡◌};
-ghost use Rattle.nbt_asking.specs.Laws.{NoneListedUnanswered, NoneWithoutAResponse, OurNodesHaveNone};
+ghost use Rattle.nbt_asking.specs.Laws.{NoneListedUnanswered, NoneWithoutAResponse, OurNodesHaveNone, OurRequestsAreHandedOn};
 ghost use Rattle.nbt_asking.specs.Port.{unasked};
 
 use crate::asking::UNASKED;
@@ -22,6 +22,15 @@ pub fn our_nodes_have_no_further_address()
 {
     nbt_confirm::laws::a_machine_answered();
     nbt_confirm::laws::a_node_of_ours_has_no_further_address();
+}
+
+/// What our nodes write of requests comes to the server at once, whatever octets follow its text: no node of ours is asked before its request
+/// is handled.
+pub fn our_requests_are_handed_on()
+    ensures { OurRequestsAreHandedOn }
+{
+    nbt_packet::laws::one_message_spelled();
+    nbt_packet::laws::written_form_is_read();
 }
 
 /// The numbers of the code are those of the definitions.
