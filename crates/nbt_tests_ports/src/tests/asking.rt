@@ -405,6 +405,50 @@ const BRIDGES: &[Turn] = &[
     ),
 ];
 
+/// After a restart a bridge's address refreshes first, which nobody reaches: it is asked, since it is no P node's, and has no lease. Our own
+/// host, which is a P node, has its lease at once.
+const REFRESHES: &[Turn] = &[
+    (
+        60_000,
+        From(
+            BRIDGE,
+            "7858 4000 0001000000000001 20454f45504545454645434341434143414341434143414341434143414341434100 00200001c00c00200001000000f0 0006 6000ac110001",
+        ),
+        &[(
+            BRIDGE,
+            "0001 0000 0001000000000000 20454f45504545454645434341434143414341434143414341434143414341434100 00200001",
+        )],
+    ),
+    (
+        60_250,
+        Nothing,
+        &[(
+            BRIDGE,
+            "0001 0000 0001000000000000 20454f45504545454645434341434143414341434143414341434143414341434100 00200001",
+        )],
+    ),
+    (
+        60_500,
+        Nothing,
+        &[(
+            BRIDGE,
+            "0001 0000 0001000000000000 20454f45504545454645434341434143414341434143414341434143414341434100 00200001",
+        )],
+    ),
+    (60_750, Nothing, &[]),
+    (
+        61_000,
+        From(
+            TWO,
+            "7859 4000 0001000000000001 20454f45504545454645434341434143414341434143414341434143414341434100 00200001c00c00200001000000f0 0006 2000c6128902",
+        ),
+        &[(
+            TWO,
+            "7859 ad80 0000000100000000 20454f45504545454645434341434143414341434143414341434143414341434100 00200001 0000003c 0006 2000c6128902",
+        )],
+    ),
+];
+
 /// A clock that tells a moment which the test sets.
 #[derive(Drop)]
 struct Hand<'a>(&'a Cell<u64>);
@@ -522,4 +566,9 @@ fn a_name_of_our_own_host_is_refused_to_another(rt: HostRuntime) {
 #[test]
 fn a_bridge_that_nobody_reaches_has_no_lease(rt: HostRuntime) {
     play(&rt, &[BRIDGES])
+}
+
+#[test]
+fn a_refresh_of_an_address_that_nobody_reaches_has_no_lease(rt: HostRuntime) {
+    play(&rt, &[REFRESHES])
 }
