@@ -1,6 +1,6 @@
 -- What is done between two turns of a server that asks, one thing after the other (our profile). The server's table is looked at, and stays
 -- as it is: so leases begin, are renewed and end by the server's rules alone, in its turns.
-use Rattle.std.specs.Prelude.{◌≡◌, ◌≢◌, ℕ, ◌+◌, ◌*◌, ◌-◌, ◌^◌, ◌<◌, ◌≤◌, ◌⊎◌, min, nat_eq, nat_lt, nat_le, ◌&&◌, Bool, true, false, if◌then◌else◌, List, [], ◌∷◌, ◌++◌, length, map, Option, Some, None, is_some}
+use Rattle.std.specs.Prelude.{◌≡◌, ◌≢◌, ℕ, ◌+◌, ◌*◌, ◌-◌, ◌^◌, ◌<◌, ◌≤◌, ◌⊎◌, min, max, nat_eq, nat_lt, nat_le, ◌&&◌, Bool, true, false, if◌then◌else◌, List, [], ◌∷◌, ◌++◌, length, map, Option, Some, None, is_some}
 use Rattle.std.specs.List.{find, flat_map, list_any}
 use Rattle.nbt_name.specs.Wire.{NameValue, same_name}
 use Rattle.nbt_name.specs.declared.addr.Addr.{Addr}
@@ -245,6 +245,6 @@ abbrev pub turned_by : Came → (octets : List ℕ) → Option Entry → Option 
 turned_by c octets None = None
 turned_by c octets (Some entry) = Some (record { came = record c { from = entry.from }; octets = octets; outcome = entry.outcome })
 
--- Between two turns, at a moment that isn't before the server's last.
-abbrev pub Attends : {P : Type 0} → (does : P → PortCall → P → Type 0) → ServerValue → (octets : List ℕ) → Option Entry → (old new : AskingPortValue P) → Type 0
-Attends does server octets entry old new = (now : ℕ) × (server.last ≤ now) × Goes does server.table now (turned_by old.last octets entry) old new
+-- Between two turns, at this moment, or at the server's last where that is later.
+abbrev pub Attends : {P : Type 0} → (does : P → PortCall → P → Type 0) → ServerValue → (at : ℕ) → (octets : List ℕ) → Option Entry → (old new : AskingPortValue P) → Type 0
+Attends does server at octets entry old new = Goes does server.table (max at server.last) (turned_by old.last octets entry) (record old { at = max at server.last }) new

@@ -22,11 +22,12 @@ use Rattle.nbt_confirm.specs.Further.{is_at, listed_at, name_most, without}
 use Rattle.nbt_confirm.specs.Inquiries.{name_port}
 use Rattle.nbt_asking.specs.Asking.{AskingValue, Kept, nothing, aside, back, any_under_way, claim_of, came_of}
 
--- A port beneath, and what is kept from the server; how the datagram came that the server was handed last; and to whom the reply
+-- A port beneath, what waits, and when that was looked at last; what is kept from the server; how the datagram came that the server was handed last; and to whom the reply
 -- doesn't leave, since nobody sent the request.
 pub record AskingPortValue (P : Type 0) : Type 0 where
   pub port : P
   pub asking : AskingValue
+  pub at : ℕ
   pub kept : Kept
   pub last : Came
   pub quiet : Option Addr
@@ -103,7 +104,7 @@ pub data LeavesAs (further : List Further) (now : ℕ) (to : Route) (octets : Li
 -- ---- a call
 
 -- A call is one of the port beneath, or none. So the server is handed what came beneath it, as it is; or what was looked at; or the text of a
--- registration that it may grant now. At which moment a reply leaves no contract says.
+-- registration that it may grant now. A reply names the further addresses that were listed when it was looked at last, between this turn and the one before.
 pub data AskingDoes {P : Type 0} (does : P → PortCall → P → Type 0) (old : AskingPortValue P) : PortCall → AskingPortValue P → Type 0 where
   comes_back : (c : Came) (octets : List ℕ) → old.kept ≡ back c octets → AskingDoes does old (came (route_of c) octets) (record old { kept = nothing; last = c; quiet = quiet_by c old.quiet })
   is_granted : (r : Request) (others : List Request) → ¬ IsBack old.kept → old.asking.granted ≡ r ∷ others
@@ -115,12 +116,12 @@ pub data AskingDoes {P : Type 0} (does : P → PortCall → P → Type 0) (old :
   waits : (port : P) → ¬ IsBack old.kept → does old.port nothing_came port → AskingDoes does old nothing_came (record old { port = port })
   fails : (port : P) → ¬ IsBack old.kept → does old.port receive_failed port → AskingDoes does old receive_failed (record old { port = port })
   is_quiet : (to : Route) (octets : List ℕ) → old.quiet ≡ Some to.peer → word_at octets 0 ≡ 0 → AskingDoes does old (sent to octets) (record old { quiet = None })
-  leaves_not : (now : ℕ) (to : Route) (octets : List ℕ) (further : List Further) → LeavesAs old.asking.further now to octets None further → AskingDoes does old (sent to octets) old
-  leaves : (now : ℕ) (to : Route) (octets out : List ℕ) (further : List Further) (port : P) → LeavesAs old.asking.further now to octets (Some out) further → does old.port (sent to out) port
+  leaves_not : (to : Route) (octets : List ℕ) (further : List Further) → LeavesAs old.asking.further old.at to octets None further → AskingDoes does old (sent to octets) old
+  leaves : (to : Route) (octets out : List ℕ) (further : List Further) (port : P) → LeavesAs old.asking.further old.at to octets (Some out) further → does old.port (sent to out) port
       → AskingDoes does old (sent to octets) (record old { port = port; asking = record old.asking { further = further } })
-  can_not_leave : (now : ℕ) (to : Route) (octets out : List ℕ) (further : List Further) (port : P) → LeavesAs old.asking.further now to octets (Some out) further → does old.port (send_failed to out) port
+  can_not_leave : (to : Route) (octets out : List ℕ) (further : List Further) (port : P) → LeavesAs old.asking.further old.at to octets (Some out) further → does old.port (send_failed to out) port
       → AskingDoes does old (send_failed to octets) (record old { port = port; asking = record old.asking { further = further } })
 
 -- nothing is kept from the server yet
 abbrev pub asking_port : {P : Type 0} → P → AskingValue → AskingPortValue P
-asking_port port asking = record { port = port; asking = asking; kept = nothing; last = record { from = record { ip = 0; port = 0 }; local = None; flags = 0 }; quiet = None }
+asking_port port asking = record { port = port; asking = asking; at = 0; kept = nothing; last = record { from = record { ip = 0; port = 0 }; local = None; flags = 0 }; quiet = None }

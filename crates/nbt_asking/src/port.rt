@@ -24,7 +24,7 @@ use nbt_lease::{Moment, Table};
 use nbt_log::Entry;
 use nbt_name::{Addr, Kind, read_word};
 use nbt_packet::{Message, Registration, read};
-use nbt_port::{Cause, Clock, Device, OwnReplies, Port, Route};
+use nbt_port::{Cause, Device, OwnReplies, Port, Route};
 use nbt_server::{Outcome, Refusal, Server};
 use std::io::Write;
 use std::marker::Model;
@@ -34,37 +34,37 @@ const QUERIES_MOST: usize = 16;
 
 /// The port of a server that asks, over another one. Between two turns it has to be called by [`AskingPort::attend`].
 #[derive(Drop)]
-pub struct AskingPort<P, C, I> {
+pub struct AskingPort<P, I> {
     /// The port beneath.
     pub beneath: P,
     /// What waits, and the further addresses.
     pub asking: Asking,
-    clock: C,
     ids: I,
+    at: Moment,
     aside: Aside,
     came: Came,
     quiet: Option<Addr>,
     out: ArrayVec<u8, 576>,
 }
 
-impl<P, C, I> Model for AskingPort<P, C, I> {
+impl<P, I> Model for AskingPort<P, I> {
     ghost use Rattle.nbt_asking.specs.Port.{AskingPortValue};
 
     ghost Value = { AskingPortValue P };
 
-    ghost view = { λ p. record { port = p.beneath; asking = p.asking; kept = p.aside; last = p.came; quiet = p.quiet } };
+    ghost view = { λ p. record { port = p.beneath; asking = p.asking; at = p.at; kept = p.aside; last = p.came; quiet = p.quiet } };
 }
 
-impl<P, C, I> AskingPort<P, C, I> {
-    /// A port over this one, with a clock that tells the times of the server's, and a source of ids.
-    pub fn new(beneath: P, clock: C, ids: I, asking: Asking) -> AskingPort<P, C, I>
+impl<P, I> AskingPort<P, I> {
+    /// A port over this one, with a source of ids.
+    pub fn new(beneath: P, ids: I, asking: Asking) -> AskingPort<P, I>
         ensures { result ≡ asking_port beneath asking }
     {
         AskingPort {
             beneath,
             asking,
-            clock,
             ids,
+            at: Moment::zero(),
             aside: Aside::new(),
             came: Came {
                 from: Addr { ip: 0, port: 0 },
@@ -96,7 +96,7 @@ impl<P, C, I> AskingPort<P, C, I> {
     }
 }
 
-impl<P: Port + TellsFlags, C: Clock, I: Ids> AskingPort<P, C, I> {
+impl<P: Port + TellsFlags, I: Ids> AskingPort<P, I> {
     /// Sets aside what was received, where that is to be looked at first, or hands it on.
     fn pass(&mut self, from: Option<Route>, octets: &mut ArrayVec<u8, 2048>) -> Option<Route>
         requires { length octets.old.items ≤ 2048 }
@@ -118,18 +118,19 @@ impl<P: Port + TellsFlags, C: Clock, I: Ids> AskingPort<P, C, I> {
         Some(route)
     }
 
-    /// What is done between two turns, after one in which the server did this with these octets; `entry` is `None` where no datagram came to
+    /// What is done between two turns, at this moment after one in which the server did this with these octets; `entry` is `None` where no datagram came to
     /// it. What was set aside is looked at, a refusal is held back whose request waits, and each query and reply leaves that is due. The
     /// server stays as it is. Where the request waits, `entry` is `None` afterwards, since nothing was refused yet. A send that fails is
     /// a datagram that was lost.
-    pub fn attend(&mut self, server: &Server, octets: &[u8], entry: &mut Option<Entry>)
-        ensures attends { Attends P.does server.now octets.now entry.old self.old self.new }
+    pub fn attend(&mut self, server: &Server, at: Moment, octets: &[u8], entry: &mut Option<Entry>)
+        ensures attends { Attends P.does server.now at octets.now entry.old self.old self.new }
         ensures entry { (entry.new ≡ entry.old) ⊎ (entry.new ≡ None) }
     {
+        let now = later(at, server.last());
+        self.at = now;
         if !self.aside.is_there() && self.asking.is_idle() && !is_refused(entry) {
             return;
         }
-        let now = later(self.clock.now(), server.last());
         let table = server.table();
         self.look_aside(table, now);
         self.look_at_turn(table, now, octets, entry);
@@ -342,12 +343,11 @@ impl<P: Port + TellsFlags, C: Clock, I: Ids> AskingPort<P, C, I> {
         if self.asking.further().rows().is_empty() {
             return false;
         }
-        let now = self.clock.now();
-        write_listed(self.asking.further(), now, octets, &mut self.out)
+        write_listed(self.asking.further(), self.at, octets, &mut self.out)
     }
 }
 
-impl<P: Port + TellsFlags, C: Clock, I: Ids> Port for AskingPort<P, C, I> {
+impl<P: Port + TellsFlags, I: Ids> Port for AskingPort<P, I> {
     ghost use Rattle.nbt_asking.specs.Port.{AskingDoes};
 
     ghost does = { AskingDoes P.does };

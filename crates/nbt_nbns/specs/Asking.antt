@@ -55,7 +55,7 @@ module _ {P S C D V : Type 0} (does : P → PortCall → P → Type 0) (failures
     pub now_told : TellsAfter tells turned entry new.served.server.last shown.at turn_clock new.served.clock
     pub failures_are : shown.health.failures ≡ failures port.port
     pub octets : List ℕ
-    pub attends : Attends does new.served.server octets entry port new.served.port
+    pub attends : Attends does new.served.server shown.at octets entry port new.served.port
     pub entry_is : (shown.entry ≡ entry) ⊎ (shown.entry ≡ None)
     pub notes : List Note
     pub heard : Seeing V

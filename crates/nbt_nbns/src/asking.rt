@@ -54,7 +54,7 @@ impl<M: RandomSource> Ids for MachineIds<'_, M> {
     }
 }
 
-impl<P: Renewable, C, I> Renewable for AskingPort<P, C, I> {
+impl<P: Renewable, I> Renewable for AskingPort<P, I> {
     ghost use Rattle.nbt_nbns.specs.Asking.{RenewsAsking};
 
     ghost renews = { RenewsAsking P.renews };
@@ -81,7 +81,6 @@ impl<P: Renewable, C, I> Renewable for AskingPort<P, C, I> {
 /// [`AskingPort::attend`] says. What a request is that waits isn't shown as a refusal.
 pub fn keep_asking<
     P: Port + TellsFlags + Renewable,
-    F: Clock,
     I: Ids,
     S: Store,
     C: Clock,
@@ -92,7 +91,7 @@ pub fn keep_asking<
     W: Write,
     E: Write,
 >(
-    port: &mut AskingPort<P, F, I>,
+    port: &mut AskingPort<P, I>,
     clock: &mut C,
     server: &mut Server,
     state: &mut Option<State<S>>,
@@ -138,8 +137,8 @@ pub fn keep_asking<
 
 /// One turn of a server that asks, and what becomes of its front after it.
 #[derive(Drop)]
-struct AskingTurn<'p, 'c, 's, 'k, 'd, 'v, 'r, 'w, 'b, P, F, I, S, C, D, V, R, W> {
-    port: &'p mut AskingPort<P, F, I>,
+struct AskingTurn<'p, 'c, 's, 'k, 'd, 'v, 'r, 'w, 'b, P, I, S, C, D, V, R, W> {
+    port: &'p mut AskingPort<P, I>,
     clock: &'c mut C,
     server: &'s mut Server,
     kept: &'k mut Option<State<S>>,
@@ -160,7 +159,6 @@ struct AskingTurn<'p, 'c, 's, 'k, 'd, 'v, 'r, 'w, 'b, P, F, I, S, C, D, V, R, W>
 
 impl<
     P: Port + TellsFlags + Renewable,
-    F: Clock,
     I: Ids,
     S: Store,
     C: Clock,
@@ -168,7 +166,7 @@ impl<
     V: Watcher + NotesFixed + TellsAsked,
     R: FrontSource,
     W: Write,
-> Turn for AskingTurn<'_, '_, '_, '_, '_, '_, '_, '_, '_, P, F, I, S, C, D, V, R, W> {
+> Turn for AskingTurn<'_, '_, '_, '_, '_, '_, '_, '_, '_, P, I, S, C, D, V, R, W> {
     ghost use Rattle.std.specs.Prelude.{[], ◌∷◌};
     ghost use Rattle.nbt_asking.specs.Port.{AskingPortValue};
     ghost use Rattle.nbt_nbns.specs.declared.staying.Shown.{Shown as TurnShown};
@@ -230,8 +228,8 @@ impl<
 const NOTES_MOST: usize = 64;
 
 /// Tells the watcher what came of the requests that waited; of one that was refused what it is shown of every refusal.
-fn tell_notes<P, F, I, V: Watcher + TellsAsked, W: Write, E: Write>(
-    port: &mut AskingPort<P, F, I>,
+fn tell_notes<P, I, V: Watcher + TellsAsked, W: Write, E: Write>(
+    port: &mut AskingPort<P, I>,
     server: &Server,
     shown: &Shown,
     watcher: &mut V,
@@ -277,7 +275,6 @@ fn tell_note<V: Watcher + TellsAsked, W: Write, E: Write>(
 /// has the moment after it.
 fn take_asking<
     P: Port + TellsFlags,
-    F: Clock,
     I: Ids,
     S: Store,
     C: Clock,
@@ -286,7 +283,7 @@ fn take_asking<
     W: Write,
     E: Write,
 >(
-    port: &mut AskingPort<P, F, I>,
+    port: &mut AskingPort<P, I>,
     clock: &mut C,
     server: &mut Server,
     state: &mut Option<State<S>>,
@@ -319,7 +316,7 @@ fn take_asking<
             return Turned::CutOff(Fault::Store);
         }
     };
-    port.attend(server, octets.as_slice(), &mut shown.entry);
+    port.attend(server, shown.at, octets.as_slice(), &mut shown.entry);
     port.tell_changes(errors);
     let at = shown.at;
     tell_notes(port, server, shown, watcher, writer, errors);

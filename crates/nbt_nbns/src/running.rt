@@ -55,7 +55,6 @@ pub fn run_nbns<M: Net + time::Clock + RandomSource + Files, W: Write, E: Write>
 {
     let port = UdpPorts::bind(machine, alloc, &arguments.bind, errors)?;
     let clock = steady_clock(machine, arguments.bind.first(), errors)?;
-    let ask_clock = steady_clock(machine, arguments.bind.first(), errors)?;
     let asking = Asking::new(alloc, arguments.rows_per_client)?;
     let started = start(machine, alloc, arguments, &port, writer, errors)?;
     let until = until_of(started.server.last(), arguments.time);
@@ -65,7 +64,6 @@ pub fn run_nbns<M: Net + time::Clock + RandomSource + Files, W: Write, E: Write>
         port,
         arguments.strict,
         desk,
-        ask_clock,
         asking,
         started,
         &mut files,
@@ -78,7 +76,7 @@ pub fn run_nbns<M: Net + time::Clock + RandomSource + Files, W: Write, E: Write>
 }
 
 /// Keeps a server up until it ends, over this port as it is where that is `strict`, behind this front; else over one on which Samba's
-/// registrations come as registrations, and which asks machines for their addresses by this clock, which tells the times of the server's.
+/// registrations come as registrations, and which asks machines for their addresses.
 pub(crate) fn keep_over<
     F: Clock + Drop,
     S: Store + Drop,
@@ -93,7 +91,6 @@ pub(crate) fn keep_over<
     port: UdpPorts<'_, M>,
     strict: bool,
     desk: Desk<'_, F>,
-    ask_clock: F,
     asking: Asking,
     started: Started<S, C, D, V>,
     source: &mut R,
@@ -134,7 +131,7 @@ pub(crate) fn keep_over<
         )
     } else {
         let front = FrontPort::new(SambaPort::new(FlagsPort::new(port)), desk);
-        let port = AskingPort::new(front, ask_clock, MachineIds::new(machine), asking);
+        let port = AskingPort::new(front, MachineIds::new(machine), asking);
         ask_to_its_end(
             port,
             &mut started,
@@ -197,7 +194,6 @@ fn keep_to_its_end<
 /// Keeps a server up until it ends, as [`keep_asking`] does. Where the port failed for good, a line in `errors` says why.
 fn ask_to_its_end<
     P: Port + TellsFlags + Renewable + Drop,
-    F: Clock + Drop,
     I: Ids + Drop,
     S: Store,
     C: Clock,
@@ -208,7 +204,7 @@ fn ask_to_its_end<
     W: Write,
     E: Write,
 >(
-    port: AskingPort<P, F, I>,
+    port: AskingPort<P, I>,
     started: &mut Started<S, C, D, V>,
     source: &mut R,
     until: Option<Moment>,

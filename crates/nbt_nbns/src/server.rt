@@ -114,7 +114,6 @@ fn run_locked<'a, M: Net + time::Clock + RandomSource + Files<File = File>, W: W
     ensures clock { result ≡ Err Fault.NoClock → W.contents writer.new ≡ W.contents writer.old }
 {
     let clock = steady_clock(machine, arguments.bind.first(), errors)?;
-    let ask_clock = steady_clock(machine, arguments.bind.first(), errors)?;
     let asking = Asking::new(alloc, arguments.rows_per_client)?;
     let StartedServer { kept, standing } = start(
         machine, alloc, arguments, state, locked, &port, writer, errors,
@@ -128,10 +127,6 @@ fn run_locked<'a, M: Net + time::Clock + RandomSource + Files<File = File>, W: W
         port,
         arguments.strict,
         desk,
-        Ahead {
-            clock: ask_clock,
-            by,
-        },
         asking,
         kept,
         &mut files,

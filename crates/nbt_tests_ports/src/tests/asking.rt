@@ -466,7 +466,7 @@ impl Clock for Hand<'_> {
     }
 }
 
-type Stage<'a> = AskingPort<SambaPort<FlagsPort<MemoryPort>>, Hand<'a>, MemoryIds>;
+type Stage = AskingPort<SambaPort<FlagsPort<MemoryPort>>, MemoryIds>;
 
 fn route(ip: u32) -> Route {
     Route {
@@ -476,7 +476,7 @@ fn route(ip: u32) -> Route {
 }
 
 /// A port that hands out what comes in these turns, in order, and ids 1, 2 and so on.
-fn stage<'a, R: Abort + AllocGlobal>(rt: &R, time: &'a Cell<u64>, parts: &[&[Turn]]) -> Stage<'a> {
+fn stage<R: Abort + AllocGlobal>(rt: &R, parts: &[&[Turn]]) -> Stage {
     let mut incoming = VecDeque::new(rt.alloc());
     for turns in parts {
         for (_, comes, _) in *turns {
@@ -497,16 +497,16 @@ fn stage<'a, R: Abort + AllocGlobal>(rt: &R, time: &'a Cell<u64>, parts: &[&[Tur
     }
     let beneath = SambaPort::new(FlagsPort::new(MemoryPort::new(rt.alloc(), incoming)));
     let asking = Asking::new(rt.alloc(), 64).ok().expect(rt, "memory");
-    AskingPort::new(beneath, Hand(time), MemoryIds::new(ids), asking)
+    AskingPort::new(beneath, MemoryIds::new(ids), asking)
 }
 
-fn sent<'a>(port: &'a Stage<'_>) -> &'a [Datagram] {
+fn sent(port: &Stage) -> &[Datagram] {
     port.beneath.beneath().beneath().sent()
 }
 
 fn play<R: Abort + AllocGlobal>(rt: &R, parts: &[&[Turn]]) {
     let time = Cell::new(0);
-    let mut port = stage(rt, &time, parts);
+    let mut port = stage(rt, parts);
     let mut server = started(rt, 4096, 0).expect(rt, "a server");
     for turns in parts {
         play_part(rt, &time, &mut port, &mut server, turns);
@@ -516,7 +516,7 @@ fn play<R: Abort + AllocGlobal>(rt: &R, parts: &[&[Turn]]) {
 fn play_part<R: Abort + AllocGlobal>(
     rt: &R,
     time: &Cell<u64>,
-    port: &mut Stage<'_>,
+    port: &mut Stage,
     server: &mut Server,
     turns: &[Turn],
 ) {
@@ -530,7 +530,8 @@ fn play_part<R: Abort + AllocGlobal>(
             .ok()
             .expect(rt, "a turn");
         let mut entry = turned.entry;
-        port.attend(server, came.as_slice(), &mut entry);
+        let now = Hand(time).now();
+        port.attend(server, now, came.as_slice(), &mut entry);
         let left = &sent(port)[before..];
         expect_eq_in(rt, turn, &left.len(), &leaves.len());
         for n in 0..leaves.len() {
