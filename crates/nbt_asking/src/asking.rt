@@ -1,6 +1,6 @@
 //! What a server has that asks machines for their addresses, beside its leases.
 
-ghost use Rattle.std.specs.Prelude.{◌≡◌, ◌≢◌, ◌↔◌, ◌+◌, ◌≤◌, ℕ, [], Some, None, IfOk, IfSome, IfNone, IsTrue, MatchBool};
+ghost use Rattle.std.specs.Prelude.{◌≡◌, ◌≢◌, ◌↔◌, ◌+◌, ◌≤◌, ℕ, [], Some, None, IfOk, IfSome, IfNone, IsTrue, MatchBool, is_some};
 ghost use Rattle.std.specs.List.{find, list_any};
 ghost use Rattle.std.specs.Option.{option_map};
 ghost use Rattle.nbt_lease.specs.Config.{milliseconds};
@@ -11,7 +11,7 @@ ghost use Rattle.nbt_server.specs.Serving.{seconds_until};
 ghost use Rattle.nbt_confirm.specs.declared.outcome.Answer.TheVariants.{Silent};
 ghost use Rattle.nbt_confirm.specs.Firsts.{with_first, without_first};
 ghost use Rattle.nbt_confirm.specs.Further.{is_at, is_next, kept_at, without};
-ghost use Rattle.nbt_confirm.specs.Waiting.{Hears, Sends, answer_of, inquiry_in, is_for, is_to_repeat, is_unanswered, next_begun, repeated, served_by, with_begun};
+ghost use Rattle.nbt_confirm.specs.Waiting.{Hears, Sends, answer_of, inquiry_in, is_for, is_to_repeat, is_unanswered, is_under_way, next_begun, next_to_ask, repeated, served_by, with_begun};
 ghost use Rattle.nbt_confirm.specs.declared.outcome.Outcome.TheVariants.{AwaitLeaseEnd, Further as FurtherOutcome};
 ghost use Rattle.nbt_asking.specs.Asking.{any_under_way, asks_nothing};
 ghost use Rattle.nbt_asking.specs.Attending.{Accepts, ConfirmsIt, FollowsFirst, Holds, IsFull, IsLeasedUntil, PassesOn, Settles, SettlesBy, Wakes, granting, is_over, replied, reply, seconds_left, until_of, waiting};
@@ -21,8 +21,8 @@ use crate::replies::{ACTIVE, REFUSED, SERVER_ERROR, route_of, write_claim, write
 use crate::tally::{AskTally, Asked, Note};
 use arrayvec::ArrayVec;
 use nbt_confirm::{
-    Awaits, Came, Further, FurtherAddresses, Machine, NAME_PORT, Outcome, Put, Request, Served,
-    Silence, Taken, WAITS_MOST, Waits, Way, wait_seconds, write_wait,
+    Awaits, Came, Further, FurtherAddresses, Machine, NAME_PORT, Outcome, Pending, Put, Request,
+    Served, Silence, Taken, WAITS_MOST, Waits, Way, wait_seconds, write_wait,
 };
 use nbt_lease::{Lease, Moment, Table};
 use nbt_name::{Addr, Kind, Name};
@@ -175,9 +175,11 @@ impl Asking {
             && self.further.rows().is_empty()
     }
 
-    /// Whether a request waits for an answer of which no inquiry may be under way: an id is drawn only then.
-    pub(crate) fn wants_id(&self) -> bool {
-        self.waits.requests().iter().any(|r| r.awaits.is_asking())
+    /// Whether a request waits for an answer, and no inquiry about its name is under way: an id is drawn only then.
+    pub(crate) fn wants_id(&self) -> bool
+        ensures { result ≡ is_some (next_to_ask self.now.waits) }
+    {
+        wants_id_in(self.waits.requests(), self.waits.pending())
     }
 
     /// The first request that the server may grant, as it comes to it: leaves its registration in `octets`, and returns how it came; `None`
@@ -590,6 +592,25 @@ fn note_of(asked: Asked, name: Name, request: &Request, seconds: u32) -> Note {
         of: request.asked,
         seconds,
     }
+}
+
+/// Whether one of these requests waits for an answer, and none of these inquiries is about its name.
+fn wants_id_in(requests: &[Request], pending: &[Pending]) -> bool
+    ensures { result ≡ is_some (next_to_ask (record { requests = requests.now; pending = pending.now })) }
+{
+    for request in requests {
+        if request.awaits.is_asking() && !is_under_way(pending, &request.name) {
+            return true;
+        }
+    }
+    false
+}
+
+/// Whether an inquiry about this name is under way.
+fn is_under_way(pending: &[Pending], name: &Name) -> bool
+    ensures { result ≡ is_under_way pending.now name.now }
+{
+    pending.iter().any(|other| other.inquiry.name == *name)
 }
 
 /// Whether a lease is a unique name's, of this address.
