@@ -518,25 +518,26 @@ impl Asking {
     /// Ends a further address, for its own release. Returns whether it was one.
     pub(crate) fn release(&mut self, name: &Name, addr: u32) -> bool
         ensures is { result ≡ list_any (is_at name.now addr) self.old.further }
-        ensures further { self.new ≡ record self.old { further = without name.now addr self.old.further } }
+        ensures ended { IsTrue result → self.new ≡ record self.old { further = without name.now addr self.old.further } }
+        ensures other { (¬ IsTrue result) → self.new ≡ self.old }
     {
-        let is_there = self.is_there(name, addr);
-        self.further.end(name, addr);
-        if is_there {
-            self.keep_note(Note {
-                asked: Asked::Released,
-                from: Addr {
-                    ip: addr,
-                    port: NAME_PORT,
-                },
-                name: name.copy(),
-                kind: Kind::Unique,
-                addr,
-                of: addr,
-                seconds: 0,
-            });
+        if !self.is_there(name, addr) {
+            return false;
         }
-        is_there
+        self.further.end(name, addr);
+        self.keep_note(Note {
+            asked: Asked::Released,
+            from: Addr {
+                ip: addr,
+                port: NAME_PORT,
+            },
+            name: name.copy(),
+            kind: Kind::Unique,
+            addr,
+            of: addr,
+            seconds: 0,
+        });
+        true
     }
 
     /// Whether an address is a further one of a name, or was.

@@ -1,12 +1,13 @@
 //! The port of a server that asks, and what is done between two of its turns.
 
-ghost use Rattle.std.specs.Prelude.{◌≡◌, ◌⊎◌, ◌≤◌, [], Ok, Option, None, IfNone, IfSome, IsTrue, length};
+ghost use Rattle.std.specs.Prelude.{◌≡◌, ◌⊎◌, ◌≤◌, [], Ok, Option, Some, None, IfNone, IfSome, IsTrue, MatchBool, length};
 ghost use Rattle.nbt_lease.specs.Lease.{TableValue};
 ghost use Rattle.nbt_name.specs.Words.{word_at};
-ghost use Rattle.nbt_asking.specs.Attending.{Attends, Goes, ServesOne, Turned, turned_by};
-ghost use Rattle.nbt_asking.specs.Port.{AskingDoes, AskingPortValue, IsBack, asking_port};
-ghost use Rattle.nbt_asking.specs.Inner.Parts.{RefusesAtOnce, ServesAll, TakesBack};
-ghost use Rattle.nbt_port.specs.PortCalls.{receiving, sending, CountsFailure};
+ghost use Rattle.nbt_asking.specs.Attending.{Attends, Goes, ServesOne, TriesToSend, Turned, datagram, query_to, turned_by};
+ghost use Rattle.nbt_asking.specs.Port.{AskingDoes, AskingPortValue, IsBack, LeavesAs, ListsHolder, RefusesRelease, asking_port};
+ghost use Rattle.nbt_asking.specs.Inner.Parts.{EndsOne, RefusesAtOnce, ServesAll, TakesBack, sends_of};
+ghost use Rattle.nbt_port.specs.PortCalls.{receiving, sending, Chain, CountsFailure};
+ghost use Rattle.nbt_port.specs.declared.port.Route.{Route as Ends};
 
 use crate::aside::{Aside, is_aside};
 use crate::asking::{Asking, Leaving, UNASKED};
@@ -192,7 +193,7 @@ impl<P: Port + TellsFlags, I: Ids> AskingPort<P, I> {
             let leaving = self
                 .asking
                 .settle_by(table, now, served, machine, &mut self.out);
-            self.leave(leaving);
+            leave(&mut self.beneath, leaving, self.out.as_slice());
         }
     }
 
@@ -210,7 +211,7 @@ impl<P: Port + TellsFlags, I: Ids> AskingPort<P, I> {
                     break;
                 };
                 let leaving = self.asking.settle(table, now, served, &mut self.out);
-                self.leave(leaving);
+                leave(&mut self.beneath, leaving, self.out.as_slice());
             }
         }
     }
@@ -236,7 +237,7 @@ impl<P: Port + TellsFlags, I: Ids> AskingPort<P, I> {
                 match held_back(table, now, came, octets, &done.outcome) {
                     Some(request) => {
                         let leaving = self.asking.hold(table, now, request, &mut self.out);
-                        self.leave(leaving);
+                        leave(&mut self.beneath, leaving, self.out.as_slice());
                         *entry = None;
                     }
                     None => self.refuse(came, octets),
@@ -262,7 +263,8 @@ impl<P: Port + TellsFlags, I: Ids> AskingPort<P, I> {
             peer: came.from,
             local: came.local,
         };
-        self.leave(Some(Leaving { to, also: None }));
+        let leaving = Some(Leaving { to, also: None });
+        leave(&mut self.beneath, leaving, self.out.as_slice());
     }
 
     /// Sends what is due.
@@ -273,7 +275,7 @@ impl<P: Port + TellsFlags, I: Ids> AskingPort<P, I> {
             let Some(way) = self.asking.repeat(now, &mut self.out) else {
                 break;
             };
-            self.send_query(way);
+            send_query(&mut self.beneath, way, self.out.as_slice());
         }
         for _ in 0..QUERIES_MOST {
             if !self.asking.wants_id() {
@@ -285,65 +287,24 @@ impl<P: Port + TellsFlags, I: Ids> AskingPort<P, I> {
             let Some(way) = self.asking.begin(now, id, &mut self.out) else {
                 return;
             };
-            self.send_query(way);
-        }
-    }
-
-    /// Sends the query that is in `out`.
-    fn send_query(&mut self, way: Way) {
-        let to = Route {
-            peer: Addr {
-                ip: way.asked,
-                port: NAME_PORT,
-            },
-            local: way.local,
-        };
-        let _ = self.beneath.send(to, self.out.as_slice());
-    }
-
-    /// Sends the reply that is in `out`, if there is one.
-    fn leave(&mut self, leaving: Option<Leaving>) {
-        let Some(leaving) = leaving else {
-            return;
-        };
-        let _ = self.beneath.send(leaving.to, self.out.as_slice());
-        if let Some(also) = leaving.also {
-            let _ = self.beneath.send(also, self.out.as_slice());
+            send_query(&mut self.beneath, way, self.out.as_slice());
         }
     }
 
     /// Sends a reply of the server's: held back, with the further addresses, or as it is.
-    fn send_reply(&mut self, to: Route, octets: &[u8]) -> Result<(), Device> {
+    fn send_reply(&mut self, to: Route, octets: &[u8]) -> Result<(), Device>
+        ensures does { AskingDoes P.does self.old (sending to octets.now result) self.new }
+        ensures count { CountsFailure (P.failures self.old.port) (P.failures self.new.port) result }
+    {
         match kind_of(octets) {
             ReplyKind::Refusal if refuses_unique(octets) => Ok(()),
-            ReplyKind::ReleaseRefusal if self.is_released(to, octets) => {
-                self.beneath.send(to, self.out.as_slice())
-            }
-            ReplyKind::Found if self.is_listed(octets) => {
+            ReplyKind::ReleaseRefusal if is_released(&mut self.asking, to, octets, &mut self.out) =>
+                { self.beneath.send(to, self.out.as_slice()) }
+            ReplyKind::Found if is_listed(&self.asking, self.at, octets, &mut self.out) => {
                 self.beneath.send(to, self.out.as_slice())
             }
             _ => self.beneath.send(to, octets),
         }
-    }
-
-    /// Whether the refused release was a further address's, which has ended then. The positive reply is in `out`.
-    fn is_released(&mut self, to: Route, octets: &[u8]) -> bool {
-        let Some(release) = release_in(octets) else {
-            return false;
-        };
-        if to.peer.ip != release.addr || !self.asking.release(&release.name, release.addr) {
-            return false;
-        }
-        write_released(&release, &mut self.out);
-        true
-    }
-
-    /// Whether there are further addresses of the machine that a reply is about. The reply with them is in `out`.
-    fn is_listed(&mut self, octets: &[u8]) -> bool {
-        if self.asking.further().rows().is_empty() {
-            return false;
-        }
-        write_listed(self.asking.further(), self.at, octets, &mut self.out)
     }
 }
 
@@ -397,6 +358,58 @@ impl<P: Port + TellsFlags, I: Ids> Port for AskingPort<P, I> {
     fn tell_changes<E: Write>(&self, errors: &mut E) {
         self.beneath.tell_changes(errors)
     }
+}
+
+/// Sends a query. Where that fails it is lost.
+fn send_query<P: Port>(beneath: &mut P, way: Way, octets: &[u8])
+    ensures { TriesToSend P.does beneath.old (datagram (query_to way) octets.now) beneath.new }
+{
+    let to = Route {
+        peer: Addr {
+            ip: way.asked,
+            port: NAME_PORT,
+        },
+        local: way.local,
+    };
+    let _ = beneath.send(to, octets);
+}
+
+/// Sends a reply, if there is one. Where that fails it is lost.
+fn leave<P: Port>(beneath: &mut P, leaving: Option<Leaving>, octets: &[u8])
+    ensures { Chain (TriesToSend P.does) beneath.old (sends_of leaving octets.now) beneath.new }
+{
+    let Some(leaving) = leaving else {
+        return;
+    };
+    let _ = beneath.send(leaving.to, octets);
+    if let Some(also) = leaving.also {
+        let _ = beneath.send(also, octets);
+    }
+}
+
+/// Whether octets refuse a further address's release to it, which has ended then. The positive reply is in `out`.
+fn is_released(asking: &mut Asking, to: Route, octets: &[u8], out: &mut ArrayVec<u8, 576>) -> bool
+    ensures { MatchBool result (EndsOne to octets.now asking.old out.new.items asking.new) ((¬ RefusesRelease asking.old.further to.peer.ip octets.now) × (asking.new ≡ asking.old)) }
+{
+    let Some(release) = release_in(octets) else {
+        return false;
+    };
+    if to.peer.ip != release.addr || !asking.release(&release.name, release.addr) {
+        return false;
+    }
+    write_released(&release, out);
+    true
+}
+
+/// Whether there are further addresses of the machine that a reply lists, as they were at this moment. The reply with them is in `out`.
+fn is_listed(asking: &Asking, at: Moment, octets: &[u8], out: &mut ArrayVec<u8, 576>) -> bool
+    ensures some { IsTrue result → (to : Ends) → LeavesAs asking.now.further at to octets.now (Some out.new.items) asking.now.further }
+    ensures none { (¬ IsTrue result) → ¬ ListsHolder asking.now.further at octets.now }
+{
+    if asking.further().rows().is_empty() {
+        return false;
+    }
+    write_listed(asking.further(), at, octets, out)
 }
 
 /// Whether the server refused something, or ended a lease: there is something to do then.

@@ -1,14 +1,18 @@
 -- What of a server that asks leaves, and what comes to the server.
-use Rattle.std.specs.Prelude.{◌≡◌, ℕ, List, [], ◌∷◌, Option, Some, None}
-use Rattle.std.specs.List.{flat_map}
+use Rattle.std.specs.Prelude.{◌≡◌, ℕ, true, List, [], ◌∷◌, Option, Some, None}
+use Rattle.std.specs.List.{flat_map, list_any}
+use Rattle.nbt_name.specs.Wire.{NameValue}
+use Rattle.nbt_name.specs.declared.addr.Kind.{Kind}
+use Rattle.nbt_packet.specs.Spelling.{Spells}
 use Rattle.nbt_packet.specs.declared.message.Registration.{Registration}
-use Rattle.nbt_packet.specs.Message.{registered, registration}
+use Rattle.nbt_packet.specs.Message.{registered, registration, released}
 use Rattle.nbt_packet.specs.Text.{text}
 use Rattle.nbt_port.specs.declared.port.Route.{Route}
 use Rattle.nbt_port.specs.Memory.{DatagramValue}
 use Rattle.nbt_port.specs.PortCalls.{PortCall, Chain}
 use Rattle.nbt_server.specs.Serving.{active_error}
 use Rattle.nbt_confirm.specs.Deciding.{Claims}
+use Rattle.nbt_confirm.specs.Further.{is_at, without}
 use Rattle.nbt_confirm.specs.declared.request.Came.{Came}
 use Rattle.nbt_confirm.specs.declared.request.Request.{Request}
 use Rattle.nbt_asking.specs.declared.asking.Leaving.{Leaving}
@@ -51,3 +55,13 @@ pub record ServesAll {P : Type 0} (does : P → PortCall → P → Type 0) (serv
 pub data RefusesAtOnce {P : Type 0} (does : P → PortCall → P → Type 0) (c : Came) (octets : List ℕ) (old : AskingPortValue P) : AskingPortValue P → Type 0 where
   refuses : (r : Registration) (port : P) → Claims octets r → TriesToSend does old.port (datagram (route_of c) (text (registered active_error (record r { ttl = 0 })))) port → RefusesAtOnce does c octets old (record old { port = port })
   refuses_none : RefusesAtOnce does c octets old old
+
+-- a further address's release is confirmed, and it has ended
+pub record EndsOne (to : Route) (octets : List ℕ) (old : AskingValue) (out : List ℕ) (new : AskingValue) : Type 0 where
+  pub id : ℕ
+  pub name : NameValue
+  pub kind : Kind
+  pub refused : Spells octets (released id active_error name kind to.peer.ip)
+  pub is_there : list_any (is_at name to.peer.ip) old.further ≡ true
+  pub out_is : out ≡ text (released id 0 name kind to.peer.ip)
+  pub new_is : new ≡ record old { further = without name to.peer.ip old.further }
