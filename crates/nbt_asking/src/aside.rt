@@ -169,7 +169,7 @@ fn is_by_p_node(octets: &[u8], claim: &Registration<'_>) -> bool
         return false;
     };
     match packet.additional {
-        Some(record) => record.rdata == entry_octets(claim.kind, claim.addr).as_slice(),
+        Some(claimed) => claimed.rdata == entry_octets(claim.kind, claim.addr).as_slice(),
         None => false,
     }
 }

@@ -141,7 +141,10 @@ pub(crate) fn write_listed(
     now: Moment,
     octets: &[u8],
     out: &mut ArrayVec<u8, 576>,
-) -> bool {
+) -> bool
+    ensures some { IsTrue result → (to : Route) → LeavesAs further.now now to octets.now (Some out.new.items) further.now }
+    ensures none { (¬ IsTrue result) → ¬ ListsHolder further.now now octets.now }
+{
     let Some(
         Message::Found {
             id,
