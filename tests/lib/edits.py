@@ -1,4 +1,5 @@
-"""What the scripts share that plant wrong bodies: the bodies, which stand in a file a crate, what each crate uses, and runs."""
+"""What the scripts share that plant wrong bodies: the bodies, which stand in a file a crate, where they may stand in a source, what each
+crate uses, and runs."""
 
 import os
 import re
@@ -7,9 +8,13 @@ from collections import namedtuple
 
 TOP = os.path.dirname(os.path.dirname(os.path.dirname(os.path.realpath(__file__))))
 
-
 # A wrong body: its name, its crate, what is said of it beside, and each changed place, as file, old and new.
 Edit = namedtuple("Edit", "name crate said changes")
+
+# In a laid out file: the head of a function and of a constant, and of any other item.
+FUNCTION = re.compile(r' *(?:pub(?:\([^)]*\))? )?(?P<const>const )?(?:unsafe )?(?:extern "C" )?fn (?P<name>\w+)')
+CONSTANT = re.compile(r" *(?:pub(?:\([^)]*\))? )?const (\w+):")
+OTHER = re.compile(r" *(?:pub(?:\([^)]*\))? )?(?:static|struct|enum|trait|impl|type|use|mod)\b")
 
 
 def read(path):
@@ -41,6 +46,20 @@ def read_edits(folder, crate):
         elif word:
             edits[-1].said[word] = text
     return edits
+
+
+def heads_of(lines):
+    """Returns the lines at which functions, constants and other items begin, and last how many lines there are."""
+    return [at for at, line in enumerate(lines) if any(it.match(line) for it in (FUNCTION, CONSTANT, OTHER))] + [len(lines)]
+
+
+def brace_of(lines, head, end):
+    """Returns the line that opens the body of the function whose head begins the one line, before the other, or None where it has no body
+    in braces of its own that may hold a statement."""
+    depth = len(lines[head]) - len(lines[head].lstrip())
+    own = (at for at in range(head, end) if re.match(rf" {{{depth}}}\S", lines[at]) and lines[at].endswith(("{", "{}", ";")))
+    brace = next(own, None)
+    return brace if brace is not None and lines[brace].endswith("{") and not FUNCTION.match(lines[head])["const"] else None
 
 
 def crates_of(folder):
