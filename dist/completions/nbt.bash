@@ -15,7 +15,7 @@ _nbt() {
     # --hosts has a file as its value with nbns, and none with scan.
     [[ $before != --hosts || ${COMP_WORDS[1]} != nbns ]] || before=--leases
     case $before in
-    --at | --rate | --port | --server | --bind | --scope | --wait | --life | --longest | --for | --log-rate | --rows-per-client | --changes-per-client | --allow | --group | --also) return ;;
+    --at | --rate | --port | --server | --bind | --scope | --wait | --life | --longest | --for | --log-rate | --rows | --rows-per-client | --changes-per-client | --allow | --group | --also) return ;;
     --leases | --stats | --fixed | --allow-file)
         compopt -o filenames 2>/dev/null
         mapfile -t COMPREPLY < <(compgen -f -- "$word")
@@ -48,7 +48,7 @@ _nbt() {
         case ${COMP_WORDS[1]} in
         lookup) words='--server --scope --exact --tries --wait --bind --help' ;;
         status) words='--also --scope --exact --tries --wait --bind --help' ;;
-        nbns) words='--bind --life --longest --for --log --log-broadcasts --log-rate --leases --hosts --stats --strict --rows-per-client --allow --allow-file --fixed --state --silent-after-boot --changes-per-client --check --help' ;;
+        nbns) words='--bind --life --longest --for --log --log-broadcasts --log-rate --leases --hosts --stats --strict --rows --rows-per-client --allow --allow-file --fixed --state --silent-after-boot --changes-per-client --check --help' ;;
         host | release) words='--server --one-table --bind --group --scope --exact --life --longest --for --log --help' ;;
         scan)
             words='--rate --tries --wait --port --bind --sorted --progress --help'

@@ -68,6 +68,7 @@ complete -c nbt -n '__nbt_takes leases nbns' -l leases -r -F -d 'Keep the list o
 complete -c nbt -n '__nbt_takes hosts nbns' -l hosts -r -F -d 'Keep the hosts in a file'
 complete -c nbt -n '__nbt_takes stats nbns' -l stats -r -F -d 'Keep statistics in a file'
 complete -c nbt -n '__nbt_takes strict nbns' -l strict -d 'Refuse the registrations of Samba'
+complete -c nbt -n '__nbt_takes rows nbns' -l rows -x -d 'How many live leases it keeps'
 complete -c nbt -n '__nbt_takes rows-per-client nbns' -l rows-per-client -x -d 'How many live leases a client may have'
 complete -c nbt -n '__nbt_is nbns' -l allow -x -d 'Let the machines of a network register'
 complete -c nbt -n '__nbt_takes allow-file nbns' -l allow-file -r -F -d 'Let the machines of the networks of a file register'

@@ -243,10 +243,16 @@ pub static NBNS: Description = Description {
             help: "Doesn't accept the registrations of Samba's programs",
         },
         Argument {
+            name: "rows",
+            form: Form::Option("N"),
+            presence: Presence::Optional,
+            help: "How many live leases it keeps: from 1 to 1048576; without it, 4096",
+        },
+        Argument {
             name: "rows-per-client",
             form: Form::Option("N"),
             presence: Presence::Optional,
-            help: "How many live leases a client may have: from 1 to 4096; without it, 64",
+            help: "How many live leases a client may have: from 1 to 1048576; without it, 64",
         },
         Argument {
             name: "allow",

@@ -122,6 +122,8 @@ pub struct NbnsTexts<'a> {
     pub stats: Option<&'a str>,
     /// Whether Samba's registrations are not accepted.
     pub strict: bool,
+    /// How many live leases the server keeps; `None` for the default.
+    pub rows: Option<&'a str>,
     /// How many live leases a client may have; `None` for the default.
     pub rows_per_client: Option<&'a str>,
     /// The networks whose machines may register; none for every machine.
@@ -307,6 +309,7 @@ fn nbns_texts<'a>(alloc: Global, matches: &ArgMatches<'a>) -> Result<NbnsTexts<'
     ensures hosts { IfOk result (λ texts. option_map (λ text. text.now) texts.hosts ≡ value_of matches.now (codes "hosts")) }
     ensures stats { IfOk result (λ texts. option_map (λ text. text.now) texts.stats ≡ value_of matches.now (codes "stats")) }
     ensures strict { IfOk result (λ texts. Tells matches.now (codes "strict") texts.strict) }
+    ensures rows { IfOk result (λ texts. option_map (λ text. text.now) texts.rows ≡ value_of matches.now (codes "rows")) }
     ensures client_rows { IfOk result (λ texts. option_map (λ text. text.now) texts.rows_per_client ≡ value_of matches.now (codes "rows-per-client")) }
     ensures allow { IfOk result (λ texts. map (λ text. text.now) texts.allow.items ≡ arguments_of matches.now (codes "allow")) }
     ensures allow_file { IfOk result (λ texts. option_map (λ text. text.now) texts.allow_file ≡ value_of matches.now (codes "allow-file")) }
@@ -330,6 +333,7 @@ fn nbns_texts<'a>(alloc: Global, matches: &ArgMatches<'a>) -> Result<NbnsTexts<'
         hosts: matches.get_str("hosts"),
         stats: matches.get_str("stats"),
         strict: matches.get_flag("strict"),
+        rows: matches.get_str("rows"),
         rows_per_client: matches.get_str("rows-per-client"),
         allow,
         allow_file: matches.get_str("allow-file"),
