@@ -5,7 +5,7 @@ use Rattle.std.specs.Global.{Vec}
 use Rattle.std.specs.Option.{option_map, unwrap_or}
 use Rattle.std.specs.String.{string_bytes}
 use Rattle.nbt_name.specs.declared.addr.Addr.{Addr}
-use Rattle.nbt_lease.specs.Config.{ConfigValue, rows_most}
+use Rattle.nbt_lease.specs.Config.{ConfigValue, large_rows_most}
 use Rattle.nbt_port.specs.declared.bind.Bind.{Bind}
 use Rattle.nbt_port.specs.declared.bind.Bind.TheVariants.{To, Every}
 use Rattle.nbt_front.specs.Networks.{NetworkValue, SpellsNetwork}
@@ -16,7 +16,7 @@ use Rattle.std.specs.Result.{MatchResult}
 use Rattle.nbt_admin.specs.Failures.{Reports, IsBad, out_of_memory}
 use Rattle.nbt_admin.specs.Reading.{Reads, Where, Then, Each, Fits, Gives, Makes, IfGiven}
 use Rattle.nbt_admin.specs.Texts.{ReadsHere}
-use Rattle.nbt_admin.specs.Times.{ReadsConfig, ReadsTime, NeedsFit, ReadsChanges, ReadsLogRate, ReadsUpTo, client_changes, client_rows, log_rate}
+use Rattle.nbt_admin.specs.Times.{ReadsConfig, ReadsTime, NeedsFit, ReadsChanges, ReadsLogRate, ReadsUpTo, client_changes, client_rows, log_rate, with_rows}
 use Rattle.nbt_admin.specs.declared.failure.ArgumentFault.{ArgumentFault}
 use Rattle.nbt_admin.specs.declared.failure.ArgumentFault.TheVariants as w
 use Rattle.nbt_admin.specs.declared.failure.Failure.{Failure}
@@ -109,13 +109,14 @@ ReadsNbns texts allowed = Then (ReadsConfig texts.life.now texts.longest.now) (�
     Then (IfGiven (ReadsFolder texts.silent_after_boot) texts.state) (λ state.
     Then (ReadsFiles texts) (λ files.
     Then (NeedsFree texts) (λ _.
-    Then (IfGiven (ReadsUpTo rows_most w.ClientRows) texts.rows_per_client) (λ rows.
+    Then (IfGiven (ReadsUpTo large_rows_most w.Rows) texts.rows) (λ rows.
+    Then (IfGiven (ReadsUpTo large_rows_most w.ClientRows) texts.rows_per_client) (λ of_client.
     Then (IfGiven ReadsChanges texts.changes_per_client) (λ changes.
     Then (IfGiven ReadsLogRate texts.log_rate) (λ rate.
     Gives (record {
       nbns = record {
         bind = bind;
-        config = config;
+        config = with_rows config rows;
         time = time;
         log = texts.log;
         broadcasts = texts.broadcasts;
@@ -124,12 +125,12 @@ ReadsNbns texts allowed = Then (ReadsConfig texts.life.now texts.longest.now) (�
         hosts = files.hosts;
         stats = files.stats;
         strict = texts.strict;
-        rows_per_client = unwrap_or rows client_rows;
+        rows_per_client = unwrap_or of_client client_rows;
         changes_per_client = unwrap_or changes client_changes;
         front = record { allowed = allowed; fixed = []; longest = config.longest };
       };
       state = state;
-    })))))))))))
+    }))))))))))))
 
 -- the file of networks has a path, and that of fixed names
 abbrev pub NeedsPaths : NbnsTexts → Result Unit Failure → Type 0

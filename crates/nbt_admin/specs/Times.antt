@@ -1,5 +1,5 @@
 -- The times, limits and numbers that texts of arguments are read as (our profile).
-use Rattle.std.specs.Prelude.{◌≡◌, ◌≢◌, ◌≤◌, ◌↔◌, ℕ, List, Result, codes}
+use Rattle.std.specs.Prelude.{◌≡◌, ◌≢◌, ◌≤◌, ◌↔◌, ℕ, List, Option, unwrap_or, Result, codes}
 use Rattle.nbt_lease.specs.Config.{ConfigValue, config_of, IsLife, IsLongest, rows_most, milliseconds}
 use Rattle.nbt_client.specs.Asking.{patience_of, tries_most}
 use Rattle.nbt_text.specs.Number.{SpellsWithin}
@@ -66,6 +66,12 @@ ReadsConfig life longest = Then (Reads (SpellsLife life) (Reports life w.Life)) 
 -- a network can run with these limits
 abbrev pub NeedsFit : ConfigValue → Result Unit Failure → Type 0
 NeedsFit config = Needs (judged config ≢ Short) (λ failure. failure ≡ Complaint (complaint.Short config))
+
+-- ---- how many live leases a server keeps
+
+-- the same limits for so many, and for 4,096 without a text
+abbrev pub with_rows : ConfigValue → (rows : Option ℕ) → ConfigValue
+with_rows config rows = config_of config.life config.longest (unwrap_or rows rows_most)
 
 -- ---- how many live leases a client of a server may have
 

@@ -10,7 +10,7 @@ use crate::scanning::{PORT_MOST, RATE_MOST};
 use crate::timing::{CHANGES_MOST, LOG_RATE_MOST};
 use nbt_args::{LimitedArgument, Refusal, Text};
 use nbt_front::{LineFault, NetworksFault};
-use nbt_lease::{Config, LIFE_MOST, LONGEST_MOST, ROWS_MOST};
+use nbt_lease::{Config, LARGE_ROWS_MOST, LIFE_MOST, LONGEST_MOST};
 use nbt_nbns::write_refusal;
 use nbt_port::Fault;
 use nbt_scan::ADDRESSES_MOST;
@@ -68,6 +68,8 @@ pub enum ArgumentFault {
     NoAllowed,
     /// An empty path of the file of fixed names.
     NoFixed,
+    /// Not a number of live leases for a server.
+    Rows,
     /// Not a number of live leases for a client.
     ClientRows,
     /// Not a number of changes of a client in a second.
@@ -118,6 +120,7 @@ impl ArgumentFault {
             ArgumentFault::PathTwice | ArgumentFault::Stores => "file",
             ArgumentFault::NoAllowed => "networks",
             ArgumentFault::NoFixed => "fixed names",
+            ArgumentFault::Rows => "rows",
             ArgumentFault::ClientRows => "rows per client",
             ArgumentFault::ClientChanges => "changes per client",
             ArgumentFault::LogRate => "log rate",
@@ -168,8 +171,8 @@ impl fmt::Display for ArgumentFault {
             ArgumentFault::Stores => f.write_str(
                 "a file of that name belongs to the folder of --state",
             ),
-            ArgumentFault::ClientRows => {
-                let most = ROWS_MOST;
+            ArgumentFault::Rows | ArgumentFault::ClientRows => {
+                let most = LARGE_ROWS_MOST;
                 write!(f, "not a whole number from 1 to {most}")
             }
             ArgumentFault::ClientChanges => {

@@ -8,7 +8,9 @@ use crate::binding::bind_of;
 use crate::failure::{ArgumentFault, Failure};
 use crate::fronting::Networks;
 use crate::reading::read_each;
-use crate::timing::{client_changes_of, client_rows_of, config_of, ending_of, fit, log_rate_of};
+use crate::timing::{
+    client_changes_of, client_rows_of, config_of, ending_of, fit, log_rate_of, rows_of, with_rows,
+};
 use nbt_args::NbnsTexts;
 use nbt_front::{FixedNames, Front, Network};
 use nbt_nbns::{NbnsArguments, ServerArguments, StateFolder};
@@ -44,7 +46,7 @@ fn expect_paths(alloc: Global, texts: &NbnsTexts<'_>) -> Result<(), Failure>
 
 /// Reads all of them but the networks, which these are. Refused, in this order: the life, the longest lease, the time, a longest lease that is
 /// too short for a network, the addresses, the folder of the state, the files as [`files_of`] has them, one that the state has for itself,
-/// the leases of a client, its changes in a second, and the lines of a log in a second.
+/// its leases, those of a client, the changes of a client in a second, and the lines of a log in a second.
 fn nbns_arguments(
     alloc: Global,
     texts: &NbnsTexts<'_>,
@@ -59,16 +61,17 @@ fn nbns_arguments(
     let state = state_of(alloc, texts.state, texts.silent_after_boot)?;
     let files = files_of(alloc, texts)?;
     expect_beside(alloc, texts)?;
-    let rows = client_rows_of(alloc, texts.rows_per_client)?;
+    let rows = rows_of(alloc, texts.rows)?;
+    let client_rows = client_rows_of(alloc, texts.rows_per_client)?;
     let changes = client_changes_of(alloc, texts.changes_per_client)?;
     let rate = log_rate_of(alloc, texts.log_rate)?;
-    let rows_per_client = rows.unwrap_or(CLIENT_ROWS);
+    let rows_per_client = client_rows.unwrap_or(CLIENT_ROWS);
     let changes_per_client = changes.unwrap_or(CLIENT_CHANGES);
     let log_rate = rate.unwrap_or(LOG_RATE);
     Ok(ServerArguments {
         nbns: NbnsArguments {
             bind,
-            config,
+            config: with_rows(config, rows),
             time,
             log: texts.log,
             broadcasts: texts.broadcasts,

@@ -1,13 +1,13 @@
 //! Reads times, limits and numbers.
 
-ghost use Rattle.std.specs.Prelude.{◌≡◌, ◌<◌, ◌^◌, ℕ, IsSome, IfSome, IfNone};
-ghost use Rattle.nbt_lease.specs.Config.{IsLongest, milliseconds, rows_most};
+ghost use Rattle.std.specs.Prelude.{◌≡◌, ◌<◌, ◌^◌, ℕ, unwrap_or, IfOk, IsSome, IfSome, IfNone};
+ghost use Rattle.nbt_lease.specs.Config.{IsLargeRows, IsLongest, large_rows_most, milliseconds, rows_most};
 ghost use Rattle.nbt_admin.specs.Reading.{IfGiven};
-ghost use Rattle.nbt_admin.specs.Times.{SpellsLongest, ReadsChanges, ReadsConfig, ReadsLogRate, NeedsFit, ReadsTime, ReadsUpTo};
+ghost use Rattle.nbt_admin.specs.Times.{SpellsLongest, ReadsChanges, ReadsConfig, ReadsLogRate, NeedsFit, ReadsTime, ReadsUpTo, with_rows};
 ghost use Rattle.nbt_admin.specs.declared.failure.ArgumentFault.TheVariants.{ClientRows};
 
 use crate::failure::{ArgumentFault, Complaint, Failure};
-use nbt_lease::{Config, LIFE_MOST, LONGEST_MOST, ROWS_MOST};
+use nbt_lease::{Config, LARGE_ROWS_MOST, LIFE_MOST, LONGEST_MOST, ROWS_MOST};
 use nbt_nbns::{Judged, judge};
 use nbt_text::{duration_within, number_within, read_duration};
 use std::alloc::Global;
@@ -17,6 +17,9 @@ pub const CHANGES_MOST: u32 = 1_000_000;
 
 /// How many lines of a kind a log may have in a second at most, where not all may be (our profile).
 pub const LOG_RATE_MOST: u8 = 255;
+
+/// How many live leases a server keeps, without an argument (our profile).
+const ROWS: u32 = 4_096;
 
 /// The milliseconds of a second.
 const SECOND: u64 = 1_000;
@@ -32,6 +35,15 @@ pub fn config_of(alloc: Global, life: &str, longest: &str) -> Result<Config, Fai
         return Err(Failure::of_argument(alloc, longest, ArgumentFault::Longest));
     };
     Ok(Config::new(milliseconds, seconds, ROWS_MOST).unwrap())
+}
+
+/// Returns the same limits for so many live leases, and for 4,096 without a number.
+pub fn with_rows(config: Config, rows: Option<u32>) -> Config
+    requires { IsLargeRows (unwrap_or rows rows_most) }
+    ensures { result ≡ with_rows config rows }
+{
+    let count = rows.unwrap_or(ROWS);
+    Config::large(config.life(), config.longest(), count as usize).unwrap()
 }
 
 /// Refuses limits with which no network can run, as `nbt_nbns::judge` decides.
@@ -64,13 +76,27 @@ fn time_of(alloc: Global, text: &str) -> Result<u64, Failure>
     }
 }
 
-/// Reads how many live leases a client of a server may have: a whole number from 1 to 4,096; `None` without a text.
-pub fn client_rows_of(alloc: Global, text: Option<&str>) -> Result<Option<u32>, Failure>
-    ensures { IfGiven (ReadsUpTo rows_most ClientRows) text.entry result }
+/// Reads how many live leases a server keeps: a whole number from 1 to 1,048,576; `None` without a text.
+pub fn rows_of(alloc: Global, text: Option<&str>) -> Result<Option<u32>, Failure>
+    ensures read { IfGiven (ReadsUpTo large_rows_most ArgumentFault.Rows) text.entry result }
+    ensures limits { IfOk result (λ rows. IsLargeRows (unwrap_or rows rows_most)) }
 {
     match text {
         Some(text) => {
-            let most = ROWS_MOST as u64;
+            let rows = number_of(alloc, text, LARGE_ROWS_MOST as u64, ArgumentFault::Rows)?;
+            Ok(Some(rows))
+        }
+        None => Ok(None),
+    }
+}
+
+/// Reads how many live leases a client of a server may have: a whole number from 1 to 1,048,576; `None` without a text.
+pub fn client_rows_of(alloc: Global, text: Option<&str>) -> Result<Option<u32>, Failure>
+    ensures { IfGiven (ReadsUpTo large_rows_most ClientRows) text.entry result }
+{
+    match text {
+        Some(text) => {
+            let most = LARGE_ROWS_MOST as u64;
             Ok(Some(number_of(alloc, text, most, ArgumentFault::ClientRows)?))
         }
         None => Ok(None),

@@ -35,17 +35,22 @@ returns-in_err-expect_beside c =
 pub returns-in_err-rows : goal.returns-in_err-rows
 returns-in_err-rows c =
     let p = err_from_is_err_and c.from_residual-in_err-rows.result c.from_residual-in_err-rows.ensures.1 in
-    rw (p.1, p.2, ← c.as_slice.ensures.value) (inr (inr (c.in_ok-config.config, (c.in_ok-config.ensures, inr (inr (c.in_ok-time.time, (c.in_ok-time.ensures, inr (inr (tt, (c.in_ok-fit.ensures, inr (inr (c.in_ok-bind.bind, (c.in_ok-bind.ensures, inr (inr (c.in_ok-state.state, (c.in_ok-state.ensures, inr (inr (c.in_ok-files.files, (c.in_ok-files.ensures, inr (inr (tt, (c.in_ok-expect_beside.ensures, inr (inl c.in_err-rows.ensures)))))))))))))))))))))))
+    rw (p.1, p.2, ← c.as_slice.ensures.value) (inr (inr (c.in_ok-config.config, (c.in_ok-config.ensures, inr (inr (c.in_ok-time.time, (c.in_ok-time.ensures, inr (inr (tt, (c.in_ok-fit.ensures, inr (inr (c.in_ok-bind.bind, (c.in_ok-bind.ensures, inr (inr (c.in_ok-state.state, (c.in_ok-state.ensures, inr (inr (c.in_ok-files.files, (c.in_ok-files.ensures, inr (inr (tt, (c.in_ok-expect_beside.ensures, inr (inl c.in_err-rows.ensures.read)))))))))))))))))))))))
+
+pub returns-in_err-client_rows : goal.returns-in_err-client_rows
+returns-in_err-client_rows c =
+    let p = err_from_is_err_and c.from_residual-in_err-client_rows.result c.from_residual-in_err-client_rows.ensures.1 in
+    rw (p.1, p.2, ← c.as_slice.ensures.value) (inr (inr (c.in_ok-config.config, (c.in_ok-config.ensures, inr (inr (c.in_ok-time.time, (c.in_ok-time.ensures, inr (inr (tt, (c.in_ok-fit.ensures, inr (inr (c.in_ok-bind.bind, (c.in_ok-bind.ensures, inr (inr (c.in_ok-state.state, (c.in_ok-state.ensures, inr (inr (c.in_ok-files.files, (c.in_ok-files.ensures, inr (inr (tt, (c.in_ok-expect_beside.ensures, inr (inr (c.in_ok-rows.rows, (c.in_ok-rows.ensures.read, inr (inl c.in_err-client_rows.ensures))))))))))))))))))))))))))
 
 pub returns-in_err-changes : goal.returns-in_err-changes
 returns-in_err-changes c =
     let p = err_from_is_err_and c.from_residual-in_err-changes.result c.from_residual-in_err-changes.ensures.1 in
-    rw (p.1, p.2, ← c.as_slice.ensures.value) (inr (inr (c.in_ok-config.config, (c.in_ok-config.ensures, inr (inr (c.in_ok-time.time, (c.in_ok-time.ensures, inr (inr (tt, (c.in_ok-fit.ensures, inr (inr (c.in_ok-bind.bind, (c.in_ok-bind.ensures, inr (inr (c.in_ok-state.state, (c.in_ok-state.ensures, inr (inr (c.in_ok-files.files, (c.in_ok-files.ensures, inr (inr (tt, (c.in_ok-expect_beside.ensures, inr (inr (c.in_ok-rows.rows, (c.in_ok-rows.ensures, inr (inl c.in_err-changes.ensures))))))))))))))))))))))))))
+    rw (p.1, p.2, ← c.as_slice.ensures.value) (inr (inr (c.in_ok-config.config, (c.in_ok-config.ensures, inr (inr (c.in_ok-time.time, (c.in_ok-time.ensures, inr (inr (tt, (c.in_ok-fit.ensures, inr (inr (c.in_ok-bind.bind, (c.in_ok-bind.ensures, inr (inr (c.in_ok-state.state, (c.in_ok-state.ensures, inr (inr (c.in_ok-files.files, (c.in_ok-files.ensures, inr (inr (tt, (c.in_ok-expect_beside.ensures, inr (inr (c.in_ok-rows.rows, (c.in_ok-rows.ensures.read, inr (inr (c.in_ok-client_rows.client_rows, (c.in_ok-client_rows.ensures, inr (inl c.in_err-changes.ensures)))))))))))))))))))))))))))))
 
 pub returns-in_err-rate : goal.returns-in_err-rate
 returns-in_err-rate c =
     let p = err_from_is_err_and c.from_residual-in_err-rate.result c.from_residual-in_err-rate.ensures.1 in
-    rw (p.1, p.2, ← c.as_slice.ensures.value) (inr (inr (c.in_ok-config.config, (c.in_ok-config.ensures, inr (inr (c.in_ok-time.time, (c.in_ok-time.ensures, inr (inr (tt, (c.in_ok-fit.ensures, inr (inr (c.in_ok-bind.bind, (c.in_ok-bind.ensures, inr (inr (c.in_ok-state.state, (c.in_ok-state.ensures, inr (inr (c.in_ok-files.files, (c.in_ok-files.ensures, inr (inr (tt, (c.in_ok-expect_beside.ensures, inr (inr (c.in_ok-rows.rows, (c.in_ok-rows.ensures, inr (inr (c.in_ok-changes.changes, (c.in_ok-changes.ensures, inr (inl c.in_err-rate.ensures)))))))))))))))))))))))))))))
+    rw (p.1, p.2, ← c.as_slice.ensures.value) (inr (inr (c.in_ok-config.config, (c.in_ok-config.ensures, inr (inr (c.in_ok-time.time, (c.in_ok-time.ensures, inr (inr (tt, (c.in_ok-fit.ensures, inr (inr (c.in_ok-bind.bind, (c.in_ok-bind.ensures, inr (inr (c.in_ok-state.state, (c.in_ok-state.ensures, inr (inr (c.in_ok-files.files, (c.in_ok-files.ensures, inr (inr (tt, (c.in_ok-expect_beside.ensures, inr (inr (c.in_ok-rows.rows, (c.in_ok-rows.ensures.read, inr (inr (c.in_ok-client_rows.client_rows, (c.in_ok-client_rows.ensures, inr (inr (c.in_ok-changes.changes, (c.in_ok-changes.ensures, inr (inl c.in_err-rate.ensures))))))))))))))))))))))))))))))))
 
 pub returns : goal.returns
-returns c = (c.in_ok-config.config, (c.in_ok-config.ensures, (c.in_ok-time.time, (c.in_ok-time.ensures, (tt, (c.in_ok-fit.ensures, (c.in_ok-bind.bind, (rw (← c.as_slice.ensures.value) c.in_ok-bind.ensures, (c.in_ok-state.state, (c.in_ok-state.ensures, (c.in_ok-files.files, (c.in_ok-files.ensures, (tt, (c.in_ok-expect_beside.ensures, (c.in_ok-rows.rows, (c.in_ok-rows.ensures, (c.in_ok-changes.changes, (c.in_ok-changes.ensures, (c.in_ok-rate.rate, (c.in_ok-rate.ensures, rw (c.unwrap_or-rows_per_client.ensures, c.unwrap_or-changes_per_client.ensures, c.unwrap_or-log_rate.ensures, c.new.ensures, c.none.ensures) refl))))))))))))))))))))
+returns c = (c.in_ok-config.config, (c.in_ok-config.ensures, (c.in_ok-time.time, (c.in_ok-time.ensures, (tt, (c.in_ok-fit.ensures, (c.in_ok-bind.bind, (rw (← c.as_slice.ensures.value) c.in_ok-bind.ensures, (c.in_ok-state.state, (c.in_ok-state.ensures, (c.in_ok-files.files, (c.in_ok-files.ensures, (tt, (c.in_ok-expect_beside.ensures, (c.in_ok-rows.rows, (c.in_ok-rows.ensures.read, (c.in_ok-client_rows.client_rows, (c.in_ok-client_rows.ensures, (c.in_ok-changes.changes, (c.in_ok-changes.ensures, (c.in_ok-rate.rate, (c.in_ok-rate.ensures, rw (c.unwrap_or-rows_per_client.ensures, c.unwrap_or-changes_per_client.ensures, c.unwrap_or-log_rate.ensures, c.with_rows.ensures, c.new.ensures, c.none.ensures) refl))))))))))))))))))))))
