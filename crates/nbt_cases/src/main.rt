@@ -26,7 +26,7 @@
 //! - `at MS`: it is this moment from here on, to which a receive comes that waits. Nothing has come until then, unless the next line says so.
 //! - `set MS`: the time of day is so many milliseconds ahead of what it was at first, 2026-11-24T09:11:03Z at the moment 0.
 //! - `limit N`: a client of the server may have so many leases from here on.
-//! - `rows N`: a name server has so many rows. `kept NAME KIND ADDR END`: it goes on with this lease. `fixed TEXT`: a line of its file of fixed names.
+//! - `rows N`: a name server without `--rows` has so many rows. `kept NAME KIND ADDR END`: it goes on with this lease. `fixed TEXT`: a line of its file of fixed names.
 //! - `output N`: standard output takes so many octets from here on, and then a write would wait; it takes `all`, or its device is `full`, or a
 //!   write is `interrupted`.
 //! - `from ADDR WORDS`: a receive hands out this datagram. `cuts ADDR WORDS`: it comes cut to each shorter length. `fails`: a receive fails.

@@ -98,7 +98,15 @@ fn serve_with(
 fn config_of(scene: &Scene, texts: &NbnsTexts<'_>) -> Option<Config> {
     let life = read_duration(texts.life.as_bytes())?;
     let longest = read_duration(texts.longest.as_bytes())? / SECOND;
-    Config::new(life, u32::try_from(longest).ok()?, scene.rows).ok()
+    Config::large(life, u32::try_from(longest).ok()?, rows_of(scene, texts)?).ok()
+}
+
+/// How many rows it has: as many as its option says, or else as the scene does.
+fn rows_of(scene: &Scene, texts: &NbnsTexts<'_>) -> Option<usize> {
+    match texts.rows {
+        Some(text) => text.parse().ok(),
+        None => Some(scene.rows),
+    }
 }
 
 fn client_rows_of(texts: &NbnsTexts<'_>) -> Option<u32> {
