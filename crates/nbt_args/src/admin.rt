@@ -335,8 +335,10 @@ without a scope, of letters, digits and inner hyphens. A name with a small lette
 another case, and any that has the letters of a fixed name. --stats keeps one with its statistics, in Prometheus' text format for
 the node exporter's textfile collector. The three files must differ.
 
-A client is the address that a registration comes from. One with N live leases, unique names and groups together, is refused one
-of a further name, with SRV_ERR; what it has it keeps, and renews. Machines behind one address count as one client.
+A client is the address that a registration comes from. One with as many live leases as --rows-per-client says, unique names and
+groups together, is refused one of a further name, with SRV_ERR; what it has it keeps, and renews. Machines behind one address count
+as one client. While the server keeps as many leases as --rows says, it refuses each further one likewise. With --state a start with
+another --rows than before doesn't go on with the leases that were kept.
 
 NETWORK is an address and how many of its first bits the others share, as 192.0.2.0/24, or an address alone. A machine of no NETWORK
 is refused each registration, refresh and overwrite, with RFS_ERR; it may still ask for names. --fixed reads FILE: lines as
