@@ -123,7 +123,7 @@ fn begin_unlocked<M: Files<File = File>, E: Write>(
 {
     let folder = state.path.as_str();
     let boot = boot_here(machine, alloc, folder, errors)?;
-    let kept = leases_in(machine, alloc, folder);
+    let kept = leases_in(machine, alloc, folder, config.rows());
     begin_with(alloc, &boot, kept, state, config, told, errors)
 }
 

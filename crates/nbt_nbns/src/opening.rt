@@ -116,7 +116,7 @@ impl<'a, M: Files<File = File>> Locked<'a, M> {
         ensures err { IfErr result IsStoreFault }
     {
         let boot = boot_here(machine, alloc, self.folder, errors)?;
-        let kept = self.disk.read(alloc);
+        let kept = self.disk.read(alloc, config.rows());
         begin_with(alloc, &boot, kept, state, config, told, errors)
     }
 }

@@ -69,14 +69,15 @@ fn share(file: &File) -> io::Result<()> {
     Ok(())
 }
 
-/// The octets of the file of the leases in a folder, as [`leases_at`] has them.
+/// The octets of the file of the leases in a folder, as [`leases_at`] has them for a server of so many rows.
 pub(crate) fn leases_in<M: Files<File = File>>(
     machine: &M,
     alloc: Global,
     folder: &str,
+    rows: usize,
 ) -> io::Result<Option<Vec<u8>>> {
     let path = format!(in alloc; "{folder}/leases")?;
-    leases_at(machine, alloc, path.as_str())
+    leases_at(machine, alloc, path.as_str(), rows)
 }
 
 /// Whether a regular file stands at a path, to which no link leads; refused, with these words, where something else does.

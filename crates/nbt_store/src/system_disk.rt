@@ -13,7 +13,7 @@ use crate::spare::{
     write_zeros,
 };
 use crate::syncs::Syncs;
-use nbt_lease::LARGE_ROWS_MOST;
+use nbt_lease::ROWS_MOST;
 use std::alloc::Global;
 use std::cell::Cell;
 use std::fs::{File, Metadata, OpenFile, Permissions};
@@ -44,7 +44,7 @@ const BOOT_ID: &str = "/proc/sys/kernel/random/boot_id";
 
 /// The id of this boot, where the system has one.
 pub fn this_boot<R: Files>(rt: &R, alloc: Global) -> io::Result<Option<Boot>> {
-    let text = octets_of(rt, alloc, BOOT_ID)?;
+    let text = octets_of(rt, alloc, BOOT_ID, file_most(ROWS_MOST))?;
     let octets = text.as_slice();
     match octets.split_last() {
         Some((b'\n', id)) => Ok(Boot::new(id)),
@@ -150,9 +150,9 @@ impl<'a, R: Files<File = File>> SystemDisk<'a, R> {
         Ok(disk)
     }
 
-    /// The octets of the file, as [`leases_at`] has them.
-    pub fn read(&self, alloc: Global) -> io::Result<Option<Vec<u8>>> {
-        leases_at(self.machine, alloc, self.path.as_str())
+    /// The octets of the file, as [`leases_at`] has them for a server of so many rows.
+    pub fn read(&self, alloc: Global, rows: usize) -> io::Result<Option<Vec<u8>>> {
+        leases_at(self.machine, alloc, self.path.as_str(), rows)
     }
 
     /// Renames the file `leases.bad`, in place of an earlier one of that name, so that what could not be loaded isn't lost where
@@ -171,10 +171,15 @@ impl<'a, R: Files> SystemDisk<'a, R> {
 }
 
 /// The octets of the file of leases at a path, without its room; `None` where there is none. Refused where it is no regular file, or has
-/// more octets than a store writes of the most leases; or if out of memory.
-pub fn leases_at<R: Files>(machine: &R, alloc: Global, path: &str) -> io::Result<Option<Vec<u8>>> {
+/// more octets than a store writes of the leases of a server of so many rows, or of 4,096 where that is more; or if out of memory.
+pub fn leases_at<R: Files>(
+    machine: &R,
+    alloc: Global,
+    path: &str,
+    rows: usize,
+) -> io::Result<Option<Vec<u8>>> {
     check_kind(machine, path, "leases is no regular file")?;
-    match octets_of(machine, alloc, path) {
+    match octets_of(machine, alloc, path, file_most(rows.max(ROWS_MOST))) {
         Ok(octets) => Ok(Some(cut(octets))),
         Err(why) if why.kind() == ErrorKind::NotFound => Ok(None),
         Err(why) => Err(why),
@@ -318,20 +323,20 @@ fn check_mark<R: Files>(machine: &R, path: &str, mark: Mark) -> io::Result<()> {
     }
 }
 
-/// A file has fewer octets: this is more than any store writes, by the lines that it has at most where a server has as many leases as it may.
-fn file_most() -> u64 {
-    lines_most(LARGE_ROWS_MOST as u64)
+/// A file has fewer octets: this is more than any store writes, by the lines that it has at most where a server has so many rows.
+fn file_most(rows: usize) -> u64 {
+    lines_most(rows as u64)
         .saturating_mul(LINE_MOST)
         .saturating_add(ROOM)
 }
 
-/// The octets of a file. Refused where it has more than a store writes.
-fn octets_of<R: Files>(machine: &R, alloc: Global, path: &str) -> io::Result<Vec<u8>> {
+/// The octets of a file. Refused where it has so many.
+fn octets_of<R: Files>(machine: &R, alloc: Global, path: &str, most: u64) -> io::Result<Vec<u8>> {
     let mut octets = Vec::new(alloc);
     File::open(machine, path)?
-        .take(file_most())
+        .take(most)
         .read_to_end(&mut octets)?;
-    if octets.len() as u64 >= file_most() {
+    if octets.len() as u64 >= most {
         return Err(io::Error::other("the file is too long"));
     }
     Ok(octets)

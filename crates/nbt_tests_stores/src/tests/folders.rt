@@ -4,7 +4,7 @@ use super::expect::{expect, expect_eq, expect_eq_in, expect_in};
 use super::following::machine_refusing;
 use super::store::renew;
 use nbt_front::{FixedNames, Front};
-use nbt_lease::{Config, Lease, Moment};
+use nbt_lease::{Config, Lease, Moment, ROWS_MOST};
 use nbt_name::{Addr, Kind, Name};
 use nbt_nbns::{Folder, FolderStore, NbnsArguments, ServerArguments, StateFolder, run_server};
 use nbt_port::{Bind, Fault};
@@ -66,7 +66,7 @@ pub fn header(rt: &impl Abort) -> Header {
 /// The lines of the file of leases of a folder.
 fn lines_in<R: Abort + AllocGlobal + Files>(rt: &R, folder: &str) -> Vec<u8> {
     let path = path_in(rt, folder, "leases");
-    leases_at(rt, rt.alloc(), path.as_str())
+    leases_at(rt, rt.alloc(), path.as_str(), ROWS_MOST)
         .expect(rt, "read")
         .expect(rt, "a file")
 }
@@ -161,7 +161,7 @@ fn open_new<'a, R: Abort + AllocGlobal + Files<File = File> + time::Clock>(
     rows: &[(Name, Lease)],
 ) -> FolderStore<'a, R> {
     let disk = SystemDisk::open_folder(rt, rt.alloc(), folder).expect(rt, "open folder");
-    expect(rt, disk.read(rt.alloc()).expect(rt, "read").is_none());
+    expect(rt, disk.read(rt.alloc(), ROWS_MOST).expect(rt, "read").is_none());
     FolderStore::open(disk, rt.alloc(), &header(rt), rows).expect(rt, "open")
 }
 
@@ -182,7 +182,7 @@ fn set_aside<R: Abort + AllocGlobal + Files<File = File>>(
 ) {
     fs::write(rt, path_in(rt, folder, "leases").as_str(), text).expect(rt, "written");
     disk.set_aside().expect(rt, "set aside");
-    expect(rt, disk.read(rt.alloc()).expect(rt, "read").is_none());
+    expect(rt, disk.read(rt.alloc(), ROWS_MOST).expect(rt, "read").is_none());
     let aside = text_in(rt, folder, "leases.bad").expect(rt, "a file aside");
     expect_eq(rt, &aside.as_str(), &text);
 }
@@ -190,7 +190,7 @@ fn set_aside<R: Abort + AllocGlobal + Files<File = File>>(
 /// All of a long file is read.
 fn expect_read<R: Abort + AllocGlobal + Files<File = File>>(rt: &R, disk: &SystemDisk<'_, R>) {
     let octets = disk
-        .read(rt.alloc())
+        .read(rt.alloc(), ROWS_MOST)
         .expect(rt, "read")
         .expect(rt, "a file");
     expect(rt, octets.len() > 65_536);
@@ -800,7 +800,7 @@ fn a_file_is_read_up_to_its_room(rt: HostRuntime) {
     for (parts, count) in PARTS {
         let octets = octets_of(&rt, parts);
         fs::write(&rt, path.as_str(), octets.as_slice()).expect(&rt, "written");
-        let read = leases_at(&rt, rt.alloc(), path.as_str()).expect(&rt, "read");
+        let read = leases_at(&rt, rt.alloc(), path.as_str(), ROWS_MOST).expect(&rt, "read");
         let read = read.expect(&rt, "a file");
         expect_eq_in(&rt, parts, &read.len(), count);
         expect_in(&rt, parts, octets.as_slice().starts_with(read.as_slice()));
@@ -818,7 +818,7 @@ fn leases_that_can_not_be_read_are_not_passed_over(rt: HostRuntime) {
     fs::write(&rt, path.as_str(), "leases").expect(&rt, "written");
     let machine = machine_refusing(&rt, path.as_str());
     let disk = SystemDisk::open_folder(&machine, rt.alloc(), folder).expect(&rt, "open folder");
-    let refused = disk.read(rt.alloc()).err().map(|error| error.kind());
+    let refused = disk.read(rt.alloc(), ROWS_MOST).err().map(|error| error.kind());
     expect(&rt, refused == Some(io::ErrorKind::PermissionDenied));
     fs::remove_dir_all(&rt, folder).expect(&rt, "removed");
 }
