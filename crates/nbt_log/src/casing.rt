@@ -81,23 +81,29 @@ impl Model for Cases {
 }
 
 impl Cases {
-    /// Those of the live names of these rows.
-    pub(crate) fn of(
-        alloc: Global,
+    /// No names.
+    pub(crate) fn new(alloc: Global) -> Cases
+        ensures { (now : ℕ) → KnowsAll now [] result }
+    {
+        Cases {
+            spellings: IndexMap::new(alloc),
+        }
+    }
+
+    /// Notes the names of these rows whose leases live, behind others.
+    pub(crate) fn note_rows(
+        &mut self,
         now: Moment,
         rows: &[(Name, Lease)],
-    ) -> Result<Cases, AllocError>
-        ensures { IfOk result (λ cases. KnowsAll now rows.now cases) }
+    ) -> Result<(), AllocError>
+        ensures { OnOk result ((before : Rows) → KnowsAll now before self.old → KnowsAll now (before ++ rows.now) self.new) }
     {
-        let mut cases = Cases {
-            spellings: IndexMap::new(alloc),
-        };
         let mut rest = rows;
         'rows: while let Some((row, others)) = rest.split_first() {
-            cases.note_row(now, row)?;
+            self.note_row(now, row)?;
             rest = others;
         }
-        Ok(cases)
+        Ok(())
     }
 
     /// Notes the name of one more row, if its lease lives.

@@ -1,9 +1,10 @@
 //! A list of a server's rows that is made by parts.
 
-ghost use Rattle.std.specs.Prelude.{◌≡◌, ◌++◌, ◌↔◌, ℕ, List, IfOk, IsTrue, OnOk};
+ghost use Rattle.std.specs.Prelude.{◌≡◌, ◌++◌, ◌↔◌, ℕ, List, [], length, IfOk, IsTrue, OnOk};
 ghost use Rattle.std.specs.String.{string_bytes};
 ghost use Rattle.nbt_text.specs.Texts.{PrintsEach};
-ghost use Rattle.nbt_log.specs.Drafts.{IsDraftText, IsWhole, listing_of, new_draft, one_part_more};
+ghost use Rattle.nbt_lease.specs.Lease.{Rows};
+ghost use Rattle.nbt_log.specs.Drafts.{IsDraftText, IsWhole, listing_of, new_draft, noted_at_first, one_part_listed, one_part_more, one_part_noted};
 ghost use Rattle.nbt_log.specs.Inner.Drafting.{Knows, Prints, head_in, listing_in};
 
 use crate::casing::{Cases, FixedCapitals};
@@ -42,22 +43,36 @@ pub(crate) enum Printer {
 }
 
 impl Printer {
-    /// How a listing of these rows at `now` is printed.
-    fn of(
-        alloc: Global,
-        listing: &Listing<'_>,
-        now: Moment,
-        rows: &[(Name, Lease)],
-    ) -> Result<Printer, AllocError>
+    /// How a listing is printed. No row is noted yet.
+    fn of(alloc: Global, listing: &Listing<'_>) -> Result<Printer, AllocError>
         ensures listing { IfOk result (λ printer. listing_in printer ≡ listing_of listing.now) }
-        ensures knows { IfOk result (λ printer. Knows printer now rows.now) }
+        ensures knows { IfOk result (λ printer. (now : ℕ) → Knows printer now []) }
     {
         match listing {
             Listing::Leases(dates) => Ok(Printer::Leases(*dates)),
-            Listing::Hosts(fixed) => {
-                let cases = Cases::of(alloc, now, rows)?;
-                Ok(Printer::Hosts(fixed.copy()?, cases))
-            }
+            Listing::Hosts(fixed) => Ok(Printer::Hosts(fixed.copy()?, Cases::new(alloc))),
+        }
+    }
+
+    /// Of how many of so many rows nothing needs to be noted.
+    fn noted_at_first(&self, count: usize) -> usize
+        ensures { (rows : Rows) → count ≡ length rows → result ≡ noted_at_first (listing_in self.now) rows }
+    {
+        match self {
+            Printer::Leases(_) => count,
+            Printer::Hosts(_, _) => 0,
+        }
+    }
+
+    /// Notes what lines need to know of these rows, behind others.
+    fn note(&mut self, now: Moment, rows: &[(Name, Lease)]) -> Result<(), AllocError>
+        ensures listing { OnOk result (listing_in self.new ≡ listing_in self.old) }
+        ensures head { OnOk result (head_in self.new ≡ head_in self.old) }
+        ensures knows { OnOk result ((before : Rows) → Knows self.old now before → Knows self.new now (before ++ rows.now)) }
+    {
+        match self {
+            Printer::Leases(_) => Ok(()),
+            Printer::Hosts(_, cases) => cases.note_rows(now, rows),
         }
     }
 
@@ -83,13 +98,15 @@ impl Printer {
 }
 
 /// A list that is made by parts: of the rows that a server had at one moment, as it was at that moment, whatever became of them
-/// since. Hosts are listed beside the names that were fixed then. A contract sees what is listed, the moment, the rows, and
-/// how many of them are in it so far.
+/// since. Hosts are listed beside the names that were fixed then, and only once the names of all rows are noted, since a name is left
+/// out where another one reads like it. A contract sees what is listed, the moment, the rows, of how many of them the names are
+/// noted, and how many of them are in it so far.
 #[derive(Drop)]
 pub struct Draft {
     at: Moment,
     rows: Vec<(Name, Lease)>,
     printer: Printer,
+    noted: usize,
     done: usize,
     text: String,
 }
@@ -101,9 +118,9 @@ impl Model for Draft {
 
     ghost Value = { DraftValue };
 
-    ghost view = { λ d. record { listing = listing_in d.printer; at = d.at; rows = d.rows.items; done = d.done } };
+    ghost view = { λ d. record { listing = listing_in d.printer; at = d.at; rows = d.rows.items; noted = d.noted; done = d.done } };
 
-    ghost invariant = { λ d. IsBegun d.printer d.at d.rows.items d.done (string_bytes d.text) };
+    ghost invariant = { λ d. IsBegun d.printer d.at d.rows.items d.noted d.done (string_bytes d.text) };
 }
 
 impl Draft {
@@ -116,25 +133,68 @@ impl Draft {
     ) -> Result<Draft, AllocError>
         ensures { IfOk result (λ draft. draft ≡ new_draft (listing_of listing.now) now rows.items) }
     {
-        let printer = Printer::of(alloc, listing, now, rows.as_slice())?;
+        let printer = Printer::of(alloc, listing)?;
+        let noted = printer.noted_at_first(rows.len());
         let text = String::from_str(alloc, printer.head())?;
         Ok(Draft {
             at: now,
             rows,
             printer,
+            noted,
             done: 0,
             text,
         })
     }
 
-    /// The same with the lines of one part more: of the next 256 rows, or of all that are left. If out of memory the draft is lost.
+    /// The same with one part more. Of a list of hosts the names of the next 256 rows, or of all that are left, are noted; once all are
+    /// noted, the lines of so many rows come in. Of any other list they come in at once. If out of memory the draft is lost.
     pub fn go_on(self) -> Result<Draft, AllocError>
         ensures { IfOk result (λ draft. draft ≡ one_part_more self) }
+    {
+        let draft = self.with_names()?;
+        if draft.noted == draft.rows.len() {
+            draft.with_lines()
+        } else {
+            Ok(draft)
+        }
+    }
+
+    /// The same with the names of one part more noted.
+    fn with_names(self) -> Result<Draft, AllocError>
+        ensures { IfOk result (λ draft. draft ≡ one_part_noted self) }
+    {
+        let Draft {
+            at,
+            rows,
+            mut printer,
+            noted,
+            done,
+            text,
+        } = self;
+        let end = (noted + PART_MOST).min(rows.len());
+        if noted < end {
+            printer.note(at, &rows[noted..end])?;
+        }
+        Ok(Draft {
+            at,
+            rows,
+            printer,
+            noted: end,
+            done,
+            text,
+        })
+    }
+
+    /// The same with the lines of one part more, once all names are noted.
+    fn with_lines(self) -> Result<Draft, AllocError>
+        requires { self.noted ≡ length self.rows }
+        ensures { IfOk result (λ draft. draft ≡ one_part_listed self) }
     {
         let Draft {
             at,
             rows,
             printer,
+            noted,
             done,
             mut text,
         } = self;
@@ -144,6 +204,7 @@ impl Draft {
             at,
             rows,
             printer,
+            noted,
             done: end,
             text,
         })

@@ -1,5 +1,5 @@
 -- How the rows of a draft are printed (our profile).
-use Rattle.std.specs.Prelude.{◌≡◌, ℕ, ◌≤◌, ⊤, List, ◌++◌, length, take}
+use Rattle.std.specs.Prelude.{◌≡◌, ℕ, ◌<◌, ◌≤◌, ⊤, List, ◌++◌, length, take}
 use Rattle.nbt_name.specs.Wire.{NameValue}
 use Rattle.nbt_lease.specs.declared.lease.Lease.{Lease}
 use Rattle.nbt_lease.specs.Lease.{Rows}
@@ -30,10 +30,13 @@ abbrev pub Knows : Printer → (now : ℕ) → Rows → Type 0
 Knows (Leases dates) now rows = ⊤
 Knows (Hosts fixed cases) now rows = KnowsAll now rows cases
 
--- The text has the first line, and the lines of the first `done` of these rows, of all of which is known what a line needs.
-pub record IsBegun (printer : Printer) (now : ℕ) (rows : Rows) (done : ℕ) (text : List ℕ) : Type 0 where
+-- The text has the first line, and the lines of the first `done` of these rows. Of the first `noted` it is known what a line needs, and before it is of all
+-- there is no line.
+pub record IsBegun (printer : Printer) (now : ℕ) (rows : Rows) (noted done : ℕ) (text : List ℕ) : Type 0 where
   pub lines : List ℕ
-  pub knows : Knows printer now rows
+  pub knows : Knows printer now (take noted rows)
+  pub noted_within : noted ≤ length rows
   pub within : done ≤ length rows
+  pub in_order : noted < length rows → done ≡ 0
   pub printed : PrintsEach (Prints printer now) (take done rows) lines
   pub text_is : text ≡ head_in printer ++ lines
