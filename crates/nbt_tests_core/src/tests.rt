@@ -8,6 +8,7 @@ mod calls;
 mod confirming;
 mod datagrams;
 mod expect;
+mod large;
 mod leases;
 mod names;
 mod node;

@@ -1,0 +1,134 @@
+//! Tables of more than 4,096 rows: their limits, one that is full, leases that end at once, and one client among many.
+
+ghost use Rattle.std.specs.Prelude.{◌≤◌};
+
+use super::at;
+use super::expect::{expect, expect_eq, expect_eq_in, expect_in};
+use nbt_lease::{Config, ConfigFault, GrantFault, Moment, Released, Table};
+use nbt_name::{Kind, Name};
+use std::process::Abort;
+
+/// A lease of 60 s that begins at 0 is over at this moment.
+const OVER: u64 = 60_000;
+
+/// The client that has several leases.
+const CLIENT: u32 = 0x0A00_0001;
+
+/// How many rows tables have.
+const SIZES: [u32; 2] = [4_097, 65_536];
+
+/// The name of a number: its letters are those of the number in hexadecimal.
+fn numbered(rt: &impl Abort, number: u32) -> Name {
+    let mut octets = *b"N00000000       ";
+    let mut rest = number;
+    for place in 1..9 {
+        octets[place] = b'A' + (rest % 16) as u8;
+        rest /= 16;
+    }
+    Name::new(&octets, b"").expect(rt, "a name")
+}
+
+/// The moment, which must not lie before the table's last one.
+fn later(rt: &impl Abort, table: &Table, ms: u64) -> Moment
+    ensures { table.now.last ≤ result }
+{
+    let now = at(rt, ms);
+    expect_in(rt, &"moments go on", table.last() <= now);
+    now
+}
+
+/// What comes of a number's name that is asked for by an address, for 60 s.
+fn grant(
+    rt: &impl Abort,
+    table: &mut Table,
+    ms: u64,
+    number: u32,
+    addr: u32,
+) -> Option<GrantFault> {
+    let now = later(rt, table, ms);
+    let name = numbered(rt, number);
+    table.grant(now, &name, addr, Kind::Unique, 60).err()
+}
+
+/// A table that has room for so many leases, and has them: each of a name and an address of its own, up to 60 s.
+fn full_table<R: Abort + AllocGlobal>(rt: &R, rows: u32) -> Table {
+    let config = Config::large(1000, 60, rows as usize).expect(rt, "limits");
+    let mut table = Table::new(rt.alloc(), config);
+    for number in 0..rows {
+        expect_eq_in(
+            rt,
+            &number,
+            &grant(rt, &mut table, 0, number, number),
+            &None,
+        );
+    }
+    table
+}
+
+#[test]
+fn limits_of_many_rows(rt: HostRuntime) {
+    for rows in [0, 1_048_577] {
+        let refused = Config::large(1, 1, rows).err();
+        expect_eq(&rt, &refused, &Some(ConfigFault::Rows));
+    }
+    for rows in [1, 4_097, 1_048_576] {
+        let config = Config::large(60_000, 1_000_000, rows).expect(&rt, "limits");
+        expect_eq(&rt, &config.rows(), &rows);
+        expect_eq(&rt, &config.life(), &60_000);
+        expect_eq(&rt, &config.longest(), &1_000_000);
+    }
+    expect_eq(&rt, &Config::large(0, 0, 0).err(), &Some(ConfigFault::Life));
+    expect_eq(
+        &rt,
+        &Config::large(1, 0, 0).err(),
+        &Some(ConfigFault::Longest),
+    );
+}
+
+/// A table is full at its rows, to the last millisecond; then all of its leases end at once, and there is room.
+#[test]
+fn many_leases_end_at_once(rt: HostRuntime) {
+    let full = Some(GrantFault::TableFull);
+    for rows in SIZES {
+        let mut table = full_table(&rt, rows);
+        for ms in [0, OVER - 1] {
+            let refused = grant(&rt, &mut table, ms, rows, CLIENT);
+            expect_eq_in(&rt, &rows, &refused, &full);
+        }
+        for number in rows..rows + 100 {
+            let none = grant(&rt, &mut table, OVER, number, number);
+            expect_eq_in(&rt, &number, &none, &None);
+        }
+        expect_none(&rt, &table, 0);
+        expect_none(&rt, &table, rows - 1);
+    }
+}
+
+/// The name of a number has no live lease.
+fn expect_none(rt: &impl Abort, table: &Table, number: u32) {
+    let now = later(rt, table, OVER);
+    let name = numbered(rt, number);
+    expect_in(rt, &number, table.least_end(now, &name).is_none());
+}
+
+/// A name that is released leaves room for one; a client has as many leases as it has, also once those of all others are over.
+#[test]
+fn one_client_among_many(rt: HostRuntime) {
+    let rows = 100_000;
+    let mut table = full_table(&rt, rows);
+    for number in 0..64 {
+        let now = later(&rt, &table, 1);
+        let gone = table.release(now, &numbered(&rt, number), number);
+        expect_eq_in(&rt, &number, &gone, &Released::Gone);
+        let none = grant(&rt, &mut table, 1, rows + number, CLIENT);
+        expect_eq_in(&rt, &number, &none, &None);
+    }
+    for ms in [1, OVER] {
+        let now = later(&rt, &table, ms);
+        expect_in(&rt, &ms, table.has_at_least(now, CLIENT, 64));
+        expect_in(&rt, &ms, !table.has_at_least(now, CLIENT, 65));
+        expect_in(&rt, &ms, !table.has_at_least(now, CLIENT + 1, 1));
+    }
+    let now = later(&rt, &table, OVER + 1);
+    expect(&rt, !table.has_at_least(now, CLIENT, 1));
+}
