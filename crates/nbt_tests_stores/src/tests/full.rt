@@ -41,6 +41,12 @@ const OVERWRITE: &str = "0001 2800 two-parts FRED NB again NB 60s unique 127.0.0
 
 const OTHER: &str = "0001 2900 two-parts TEAM NB again NB 60s unique 127.0.0.3";
 
+const OTHER_NOT_OWN: &str = "0001 ad85 reply TEAM NB 0s unique 127.0.0.3";
+
+const MEMBER: &str = "0001 2900 two-parts TEAM NB again NB 60s group 127.0.0.2";
+
+const SECOND_MEMBER: &str = "0001 2900 two-parts TEAM NB again NB 60s group 127.0.0.3";
+
 const RELEASED: &str = "0002 b400 reply FRED NB 0s unique 127.0.0.2";
 
 /// The turns of a server without a limit of changes, the room that the disk has in each, and how many requests were barred by their end.
@@ -154,6 +160,110 @@ const ROWS: &[Filled] = &[
             Room::TooLong,
         ],
         barred: 2,
+    },
+    Filled {
+        kept: Kept {
+            name: "a full disk: claims that aren't the sender's own, no message, a group's claim by who has the name as unique, and releases of a name of nobody and of a star, and none of them changes anything; a claim by who has the name is lost",
+            durable: 60_000,
+            moments: &[60_000],
+            given: &[
+                (FIRST, REGISTRATION),
+                NOTHING,
+                (FIRST, OTHER),
+                (
+                    FIRST,
+                    "0001 4000 two-parts TEAM NB again NB 60s unique 127.0.0.3",
+                ),
+                (SECOND, "0001 2900"),
+                (
+                    FIRST,
+                    "0001 2900 two-parts FRED NB again NB 60s group 127.0.0.2",
+                ),
+                (
+                    SECOND,
+                    "0002 3000 two-parts TEAM NB again NB 0s unique 127.0.0.3",
+                ),
+                (
+                    SECOND,
+                    "0002 3000 two-parts STAR NB again NB 0s unique 127.0.0.3",
+                ),
+                (FIRST, REGISTRATION),
+            ],
+            port_fails: None,
+            trouble: None,
+            turns: &[
+                (Ok(()), 0, 4),
+                (Ok(()), 1, 5),
+                (Ok(()), 2, 5),
+                (Ok(()), 3, 5),
+                (Ok(()), 3, 5),
+                (Ok(()), 4, 5),
+                (Ok(()), 5, 5),
+                (Ok(()), 6, 5),
+                (Ok(()), 6, 5),
+            ],
+            sent: &[
+                (FIRST, GRANTED),
+                (FIRST, OTHER_NOT_OWN),
+                (FIRST, OTHER_NOT_OWN),
+                (FIRST, "0001 ad86 reply FRED NB 0s group 127.0.0.2"),
+                (SECOND, "0002 b400 reply TEAM NB 0s unique 127.0.0.3"),
+                (SECOND, "0002 b405 reply STAR NB 0s unique 127.0.0.3"),
+            ],
+        },
+        rooms: &[Room::Ample, Room::Ample, Room::Scarce],
+        barred: 1,
+    },
+    Filled {
+        kept: Kept {
+            name: "a full disk: a member's claim of its group's name as unique changes nothing; a renewal is lost, and so are a second member's claim, until there is room, and its release",
+            durable: 60_000,
+            moments: &[60_000],
+            given: &[
+                (FIRST, MEMBER),
+                NOTHING,
+                (
+                    FIRST,
+                    "0001 2900 two-parts TEAM NB again NB 60s unique 127.0.0.2",
+                ),
+                (FIRST, MEMBER),
+                (SECOND, SECOND_MEMBER),
+                (SECOND, SECOND_MEMBER),
+                NOTHING,
+                (
+                    SECOND,
+                    "0002 3000 two-parts TEAM NB again NB 0s group 127.0.0.3",
+                ),
+            ],
+            port_fails: None,
+            trouble: None,
+            turns: &[
+                (Ok(()), 0, 4),
+                (Ok(()), 1, 5),
+                (Ok(()), 2, 5),
+                (Ok(()), 2, 5),
+                (Ok(()), 2, 5),
+                (Ok(()), 2, 6),
+                (Ok(()), 3, 7),
+                (Ok(()), 3, 7),
+            ],
+            sent: &[
+                (FIRST, "0001 ad80 reply TEAM NB 60s group 127.0.0.2"),
+                (FIRST, "0001 ad86 reply TEAM NB 0s unique 127.0.0.2"),
+                (SECOND, "0001 ad80 reply TEAM NB 60s group 127.0.0.3"),
+            ],
+        },
+        rooms: &[
+            Room::Ample,
+            Room::Ample,
+            Room::Scarce,
+            Room::Scarce,
+            Room::Scarce,
+            Room::Ample,
+            Room::Ample,
+            Room::Scarce,
+        ],
+        barred: 3,
     },
     Filled {
         kept: Kept {
