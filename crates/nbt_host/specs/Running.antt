@@ -1,5 +1,5 @@
 -- A host from its start to its end (our profile).
-use Rattle.std.specs.Prelude.{◌≡◌, ℕ, Bool, List, length, Option}
+use Rattle.std.specs.Prelude.{◌≡◌, ◌⊎◌, ℕ, Bool, List, length, Option}
 use Rattle.std.specs.List.{list_all}
 use Rattle.std.specs.Io.KnownBytes.{Appends}
 use Rattle.nbt_name.specs.declared.addr.Addr.{Addr}
@@ -54,6 +54,10 @@ HostsOver does tells looks at a all old_port watch old_text port text = Begins l
 abbrev pub HostOverFails : {P K : Type 0} → (P → PortCall → P → Type 0) → (K → ℕ → K → Type 0) → (K → Look → K → Type 0) → (at : Addr) → HostArguments → Fault → P → K → (old_text : Option (List ℕ)) → P → (text : Option (List ℕ)) → Type 0
 HostOverFails does tells looks at a fault old_port watch old_text port text = Begins looks at a (λ until old new. RunFails does tells looks a until fault old new) old_port watch old_text port text
 
+-- Whichever way it ends early: it did before its host called the port, or as above.
+abbrev pub HostOverEnds : {P K : Type 0} → (P → PortCall → P → Type 0) → (K → ℕ → K → Type 0) → (K → Look → K → Type 0) → (at : Addr) → HostArguments → Fault → P → K → (old_text : Option (List ℕ)) → P → (text : Option (List ℕ)) → Type 0
+HostOverEnds does tells looks at a fault old_port watch old_text port text = (port ≡ old_port) ⊎ HostOverFails does tells looks at a fault old_port watch old_text port text
+
 -- over a UDP port of this machine that was bound to this address, its steady clock, and its time of day, with some salt
 abbrev pub Here : HostArguments → (UdpValue → WatchedClocks ℕ ℕ → UdpValue → Addr → Type 0) → Type 0
 Here a goes = (at : Addr) × (steady : ℕ) × (day : ℕ) × (salt : ℕ) × (port : UdpValue) × SteadyBegins SystemShows steady × goes (record { addr = a.bind; failures = 0 }) (unwatched steady day salt) port at
@@ -70,3 +74,6 @@ HostsHere a all old_text text = Here a (λ old_port watch port at. HostsOver Udp
 
 abbrev pub HostFailsHere : HostArguments → Fault → (old_text text : Option (List ℕ)) → Type 0
 HostFailsHere a fault old_text text = Here a (λ old_port watch port at. HostOverFails UdpDoes TellsHere LooksHere at a fault old_port watch old_text port text)
+
+abbrev pub HostEndsHere : HostArguments → Fault → (old_text text : Option (List ℕ)) → Type 0
+HostEndsHere a fault old_text text = Here a (λ old_port watch port at. HostOverEnds UdpDoes TellsHere LooksHere at a fault old_port watch old_text port text)

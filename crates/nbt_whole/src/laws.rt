@@ -4,7 +4,7 @@ ghost use Rattle.nbt_whole.specs.Nbns.{NbnsAreLived, FailedNbnsAreLived, KeptAre
 
 /// What the contract of [`nbt_nbns::run_nbns`] says of a server without a state is a life of it, from its first call to its last: until its time is over
 /// (`bare`), or until its port fails for good (`bare_failed`). So is what `RunsKept`, which is of the contract of [`nbt_nbns::run_server`], says of a
-/// server with a state (`kept`), and what `KeptFails` says of one whose port or store fails (`kept_failed`), from the server that it begins as. All that
+/// server with a state (`kept`), and what `KeptFails`, which is of that contract too, says of one whose port or store fails (`kept_failed`), from the server that it begins as. All that
 /// its port, its clock and its store did stands in one order, and at each reading of the clock the acts at that time. A front that is read anew
 /// takes the place of its own between two calls. With a state a run begins with that server, and the calls of the port and the store are those of that run;
 /// a reply may leave later than at its act, but no longer than a datagram's life after its request was read.
