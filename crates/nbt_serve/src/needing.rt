@@ -20,7 +20,8 @@ pub(crate) fn room_for(room: Room, server: &Server, now: Moment, ip: u32, octets
 }
 
 /// Whether the server refuses this datagram as it has it, or has nothing to do with it: octets that spell no message, what isn't the sender's
-/// own, an overwrite, a claim in whose way a lease stands, and a release by who has no lease of the name.
+/// own, as the name that stands for all, an overwrite, a claim in whose way a lease stands, and a release by who has no lease of the name.
+/// Not told apart from a change is a claim that is refused since the table, the group or its client has as many leases as it may.
 fn changes_nothing(server: &Server, now: Moment, ip: u32, octets: &[u8]) -> bool {
     let table = server.table();
     if now.get() < table.last().get() {
@@ -30,13 +31,18 @@ fn changes_nothing(server: &Server, now: Moment, ip: u32, octets: &[u8]) -> bool
         return true;
     };
     match message {
-        Message::Registration(claim) => claim.addr != ip || is_taken(table, now, claim),
-        Message::Refresh(claim) => claim.addr != ip || is_taken(table, now, claim),
+        Message::Registration(claim) => !is_own(&claim, ip) || is_taken(table, now, claim),
+        Message::Refresh(claim) => !is_own(&claim, ip) || is_taken(table, now, claim),
         Message::Release { name, addr, .. } => {
             addr != ip || !has_lease(table, now, &name.to_name(), addr)
         }
         _ => true,
     }
+}
+
+/// Whether an address may claim this: it does so for itself, and the name isn't the one that stands for all.
+fn is_own(claim: &Registration<'_>, ip: u32) -> bool {
+    claim.addr == ip && !claim.name.is_star()
 }
 
 /// Whether a live lease stands in the way of a claim.

@@ -161,7 +161,12 @@ fn open_new<'a, R: Abort + AllocGlobal + Files<File = File> + time::Clock>(
     rows: &[(Name, Lease)],
 ) -> FolderStore<'a, R> {
     let disk = SystemDisk::open_folder(rt, rt.alloc(), folder).expect(rt, "open folder");
-    expect(rt, disk.read(rt.alloc(), ROWS_MOST).expect(rt, "read").is_none());
+    expect(
+        rt,
+        disk.read(rt.alloc(), ROWS_MOST)
+            .expect(rt, "read")
+            .is_none(),
+    );
     FolderStore::open(disk, rt.alloc(), &header(rt), rows).expect(rt, "open")
 }
 
@@ -182,7 +187,12 @@ fn set_aside<R: Abort + AllocGlobal + Files<File = File>>(
 ) {
     fs::write(rt, path_in(rt, folder, "leases").as_str(), text).expect(rt, "written");
     disk.set_aside().expect(rt, "set aside");
-    expect(rt, disk.read(rt.alloc(), ROWS_MOST).expect(rt, "read").is_none());
+    expect(
+        rt,
+        disk.read(rt.alloc(), ROWS_MOST)
+            .expect(rt, "read")
+            .is_none(),
+    );
     let aside = text_in(rt, folder, "leases.bad").expect(rt, "a file aside");
     expect_eq(rt, &aside.as_str(), &text);
 }
@@ -818,7 +828,10 @@ fn leases_that_can_not_be_read_are_not_passed_over(rt: HostRuntime) {
     fs::write(&rt, path.as_str(), "leases").expect(&rt, "written");
     let machine = machine_refusing(&rt, path.as_str());
     let disk = SystemDisk::open_folder(&machine, rt.alloc(), folder).expect(&rt, "open folder");
-    let refused = disk.read(rt.alloc(), ROWS_MOST).err().map(|error| error.kind());
+    let refused = disk
+        .read(rt.alloc(), ROWS_MOST)
+        .err()
+        .map(|error| error.kind());
     expect(&rt, refused == Some(io::ErrorKind::PermissionDenied));
     fs::remove_dir_all(&rt, folder).expect(&rt, "removed");
 }

@@ -43,6 +43,8 @@ const OTHER: &str = "0001 2900 two-parts TEAM NB again NB 60s unique 127.0.0.3";
 
 const OTHER_NOT_OWN: &str = "0001 ad85 reply TEAM NB 0s unique 127.0.0.3";
 
+const STAR_NOT_OWN: &str = "0001 ad85 reply STAR NB 0s unique 127.0.0.2";
+
 const MEMBER: &str = "0001 2900 two-parts TEAM NB again NB 60s group 127.0.0.2";
 
 const SECOND_MEMBER: &str = "0001 2900 two-parts TEAM NB again NB 60s group 127.0.0.3";
@@ -163,7 +165,7 @@ const ROWS: &[Filled] = &[
     },
     Filled {
         kept: Kept {
-            name: "a full disk: claims that aren't the sender's own, no message, a group's claim by who has the name as unique, and releases of a name of nobody and of a star, and none of them changes anything; a claim by who has the name is lost",
+            name: "a full disk: claims that aren't the sender's own, no message, claims of a star, a group's claim by who has the name as unique, and releases of a name of nobody and of a star, and none of them changes anything; a claim by who has the name is lost",
             durable: 60_000,
             moments: &[60_000],
             given: &[
@@ -187,6 +189,14 @@ const ROWS: &[Filled] = &[
                     SECOND,
                     "0002 3000 two-parts STAR NB again NB 0s unique 127.0.0.3",
                 ),
+                (
+                    FIRST,
+                    "0001 2900 two-parts STAR NB again NB 60s unique 127.0.0.2",
+                ),
+                (
+                    FIRST,
+                    "0001 4000 two-parts STAR NB again NB 60s unique 127.0.0.2",
+                ),
                 (FIRST, REGISTRATION),
             ],
             port_fails: None,
@@ -200,7 +210,9 @@ const ROWS: &[Filled] = &[
                 (Ok(()), 4, 5),
                 (Ok(()), 5, 5),
                 (Ok(()), 6, 5),
-                (Ok(()), 6, 5),
+                (Ok(()), 7, 5),
+                (Ok(()), 8, 5),
+                (Ok(()), 8, 5),
             ],
             sent: &[
                 (FIRST, GRANTED),
@@ -209,6 +221,8 @@ const ROWS: &[Filled] = &[
                 (FIRST, "0001 ad86 reply FRED NB 0s group 127.0.0.2"),
                 (SECOND, "0002 b400 reply TEAM NB 0s unique 127.0.0.3"),
                 (SECOND, "0002 b405 reply STAR NB 0s unique 127.0.0.3"),
+                (FIRST, STAR_NOT_OWN),
+                (FIRST, STAR_NOT_OWN),
             ],
         },
         rooms: &[Room::Ample, Room::Ample, Room::Scarce],
