@@ -1,13 +1,14 @@
 -- What a name server that may keep its leases does and prints over this machine (our profile).
-use Rattle.std.specs.Prelude.{◌≡◌, ℕ, false, List, [], length, Option, Some, None}
+use Rattle.std.specs.Prelude.{◌≡◌, ◌⊎◌, ⊤, ℕ, false, List, [], length, Option, Some, None}
 use Rattle.nbt_port.specs.Clocks.{MachineTells, SteadyTells, SteadyBegins, SystemShows, TellsAhead}
 use Rattle.nbt_port.specs.Until.{until_of}
 use Rattle.nbt_port.specs.declared.ahead.Ahead.{Ahead}
 use Rattle.nbt_port.specs.declared.fault.Fault.{Fault}
+use Rattle.nbt_port.specs.declared.fault.Fault.TheVariants as fault
 use Rattle.nbt_log.specs.declared.dates.Dates.{Dates}
 use Rattle.nbt_server.specs.Calls.{limited}
 use Rattle.nbt_front.specs.Standing.{in_the_way}
-use Rattle.nbt_nbns.specs.Running.{Nbns, Begins, KeepsUntil, KeepsNot, RunsNbns, new_journal, port_at_first}
+use Rattle.nbt_nbns.specs.Running.{Nbns, Begins, KeepsUntil, KeepsNot, NbnsFails, RunsNbns, new_journal, port_at_first}
 use Rattle.nbt_nbns.specs.declared.first_line.Manner.{Manner}
 use Rattle.nbt_nbns.specs.declared.arguments.NbnsArguments.{NbnsArguments}
 use Rattle.nbt_nbns.specs.Begin.{manner_of}
@@ -60,6 +61,31 @@ RunsKept a state old_text text = Begins (StartsKept a state) (λ first. KeepsUnt
 
 abbrev pub KeptFails : NbnsArguments → StateFolder → Fault → (old_text text : Option (List ℕ)) → Type 0
 KeptFails a state why old_text text = Begins (StartsKept a state) (λ first. KeepsNot (TellsAhead (SteadyTells SystemShows)) a.strict (until_of first.served.server.last a.time) why first) old_text text
+
+-- Why a server ended early, and what it had done by then. It printed nothing where it had no port or no clock, and without a state where it was out of memory. It had begun where its port
+-- failed for good, and where its store failed, unless that failed before the first line. Of its output's failure nothing is said, nor of its memory's with a state.
+abbrev pub FailsKept : NbnsArguments → StateFolder → Fault → (old_text text : Option (List ℕ)) → Type 0
+FailsKept a state fault.Device old_text text = KeptFails a state fault.Device old_text text
+FailsKept a state fault.Store old_text text = (text ≡ old_text) ⊎ KeptFails a state fault.Store old_text text
+FailsKept a state fault.NoPort old_text text = text ≡ old_text
+FailsKept a state fault.NoClock old_text text = text ≡ old_text
+FailsKept a state fault.Memory old_text text = ⊤
+FailsKept a state fault.Output old_text text = ⊤
+
+abbrev pub FailsBare : NbnsArguments → Fault → (old_text text : Option (List ℕ)) → Type 0
+FailsBare a fault.Device old_text text = NbnsFails a old_text text
+FailsBare a fault.NoPort old_text text = text ≡ old_text
+FailsBare a fault.NoClock old_text text = text ≡ old_text
+FailsBare a fault.Memory old_text text = text ≡ old_text
+FailsBare a fault.Output old_text text = ⊤
+FailsBare a fault.Store old_text text = ⊤
+
+abbrev pub FailsWith : NbnsArguments → Option StateFolder → Fault → (old_text text : Option (List ℕ)) → Type 0
+FailsWith a None why old_text text = FailsBare a why old_text text
+FailsWith a (Some state) why old_text text = FailsKept a state why old_text text
+
+abbrev pub FailsServer : ServerArguments → Fault → (old_text text : Option (List ℕ)) → Type 0
+FailsServer a why old_text text = FailsWith a.nbns a.state why old_text text
 
 -- the exit status of a server that ended so
 abbrev pub folder_status : Folder → ℕ

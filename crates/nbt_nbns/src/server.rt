@@ -1,7 +1,7 @@
 //! A name server that keeps its leases, over UDP, the system's clocks and its files.
 
-ghost use Rattle.std.specs.Prelude.{◌≡◌, ◌≤◌, ◌⊎◌, Err, OnOk, IfOk};
-ghost use Rattle.nbt_nbns.specs.Servers.{EndsKept, EndsServer, KeptFails, RunsKept};
+ghost use Rattle.std.specs.Prelude.{◌≡◌, ◌≤◌, ◌⊎◌, Err, OnOk, IfErr, IfOk};
+ghost use Rattle.nbt_nbns.specs.Servers.{EndsKept, EndsServer, FailsServer, KeptFails, RunsKept};
 
 use crate::arguments::{NbnsArguments, ServerArguments, StateFolder};
 use crate::opening::Locked;
@@ -54,7 +54,8 @@ pub fn run_server<M: Net + time::Clock + Files<File = File>, W: Write, E: Write>
     writer: &mut W,
     errors: &mut E,
 ) -> Result<Folder, Fault>
-    ensures { IfOk result (λ folder. EndsServer arguments.now folder (W.contents writer.old) (W.contents writer.new)) }
+    ensures ok { IfOk result (λ folder. EndsServer arguments.now folder (W.contents writer.old) (W.contents writer.new)) }
+    ensures err { IfErr result (λ why. FailsServer arguments.now why (W.contents writer.old) (W.contents writer.new)) }
 {
     match &arguments.state {
         Some(state) => run_kept(machine, alloc, &arguments.nbns, state, writer, errors),

@@ -7,7 +7,7 @@ use Rattle.nbt_server.specs.Serving.{ServerValue}
 use Rattle.nbt_store.specs.Calls.{StoreCall, renewal_began, renewal_went_on, renewed, renewal_failed}
 use Rattle.nbt_store.specs.Changes.{begun_all}
 use Rattle.nbt_store.specs.declared.change.Change.TheVariants.{Looked}
-use Rattle.nbt_serve.specs.Devices.{DeviceCall, on_port, on_store}
+use Rattle.nbt_serve.specs.Devices.{on_store}
 use Rattle.nbt_serve.specs.Looking.{Desk, LooksAfter, replies_wait, goes_back, stays, has_no_room, looked, begun, went_on, written, FailsToLook, line_fails, begin_fails, renewal_fails, header_at}
 use Rattle.nbt_serve.specs.Runs as runs
 use Rattle.nbt_serve.specs.Runs.{Runs, Seen, Steps, calls_in, live_rows, stored_in}

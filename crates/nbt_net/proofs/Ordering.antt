@@ -1,5 +1,5 @@
 -- Calls of several devices in one order: each device's own among them, and the whole put together of these.
-use Rattle.std.proofs.Common.{◌≡◌, ℕ, List, [], ◌∷◌, ◌++◌, map, Option, Some, None, refl, sym, ap, subst, ◌∙◌, append-nil}
+use Rattle.std.proofs.Common.{◌≡◌, ℕ, List, [], ◌∷◌, ◌++◌, map, Some, None, refl, sym, ap, subst, ◌∙◌, append-nil}
 use Rattle.nbt_port.specs.PortCalls.{PortCall, Chain}
 use Rattle.nbt_store.specs.Calls.{StoreCall}
 use Rattle.nbt_serve.specs.Devices.{DeviceCall, on_port, on_store, Devices, DeviceDoes}

@@ -1,30 +1,27 @@
 -- A turn of a server that keeps its leases is a part of its life with its devices: what it receives and replies to, and what waits.
-use Rattle.std.proofs.Common.{◌≡◌, ◌≤◌, ◌⊎◌, ◌+◌, ℕ, nat_le, Bool, true, false, not, List, [], ◌∷◌, ◌++◌, map, Contains, filter, Option, Some, None, is_some, IfSome, refl, sym, ap, subst, ◌∙◌, append-nil, append_assoc, inl, inr, arith}
+use Rattle.std.proofs.Common.{◌≡◌, ◌≤◌, ◌⊎◌, ◌+◌, ℕ, nat_le, Bool, true, false, List, [], ◌∷◌, ◌++◌, map, Contains, Option, Some, None, IfSome, refl, sym, ap, subst, ◌∙◌, append-nil, inl, inr, arith}
 use Rattle.std.specs.List.{flat_map, AllByRecursion}
 use Rattle.std.proofs.lemmas.Bool.{cases_Bool, leb-true}
 use Rattle.std.proofs.lemmas.List.Elements.{Contains-append_right}
 use Rattle.nbt_lease.specs.Config.{ConfigValue}
 use Rattle.nbt_packet.specs.Message.{MessageValue}
-use Rattle.nbt_packet.specs.Spelling.{name_in}
 use Rattle.nbt_packet.specs.Text.{text}
 use Rattle.nbt_port.specs.declared.port.Route.{Route}
 use Rattle.nbt_port.specs.PortCalls.{PortCall, nothing_came, came, receive_failed, sent, send_failed, Chain}
 use Rattle.nbt_server.specs.Serving.{ServerValue}
 use Rattle.nbt_store.specs.Calls.{StoreCall, append_failed, sync_failed}
 use Rattle.nbt_store.specs.declared.change.Change.{Change}
-use Rattle.nbt_store.specs.declared.change.Change.TheVariants.{Reached}
 use Rattle.nbt_serve.specs.Devices.{DeviceCall, on_port, on_store, Devices, DeviceDoes}
 use Rattle.nbt_serve.specs.Runs.{stored_in}
 use Rattle.nbt_serve.specs.Serving.{Turn, is_empty, is_taken, is_lost, moments_in, Turns}
-use Rattle.nbt_serve.specs.Turning.{Barred, Took, Takes, TakesAny, reply_in, receive_in, told_in, reached, with_lines, with_any, before_it, appends_of, stores, taking, behind_it, GoesAhead, IsAhead, behind, held, sent_ahead, with_reply, first_calls, Passes, still_waits, all_leave, LeavingFails, sync_fails, send_fails, Fails, receive_fails, reaching_fails, append_fails, ahead_fails, leaving_fails, reach}
-use Rattle.nbt_serve.specs.Waiting.{ReplyValue, WaitingValue, counted, laid_down, lay_down, LineFails, syncs_of, sends_of, timely, leaving}
+use Rattle.nbt_serve.specs.Turning.{Barred, Took, Takes, TakesAny, reply_in, receive_in, told_in, reached, with_lines, with_any, before_it, stores, behind_it, behind, sent_ahead, with_reply, first_calls, Passes, still_waits, all_leave, LeavingFails, sync_fails, send_fails, Fails, receive_fails, reaching_fails, append_fails, ahead_fails, leaving_fails}
+use Rattle.nbt_serve.specs.Waiting.{ReplyValue, WaitingValue, laid_down, lay_down, syncs_of, sends_of, timely, leaving}
 use Rattle.nbt_serve.specs.declared.fault.KeepFault.{KeepFault}
 use Rattle.nbt_serve.specs.declared.fault.KeepFault.TheVariants as fault
 use Rattle.nbt_net.specs.Wire.{Act}
 use Rattle.nbt_net.specs.Servers.{up, ServerLives}
 use Rattle.nbt_net.specs.Turns.{act_of}
-use Rattle.nbt_net.specs.Devices.{Call, of_port, reads, Machine, MachineDoes, StoreDoes, devices_in, Story, going_on, IsOfAnAct, AreActs, ends, is_quiet, acts_at, acts_on}
-use Rattle.nbt_net.proofs.Ends.{nothing_at}
+use Rattle.nbt_net.specs.Devices.{Call, of_port, reads, Machine, MachineDoes, StoreDoes, devices_in, Story, going_on, IsOfAnAct, AreActs, ends, is_quiet, acts_on}
 use Rattle.nbt_net.proofs.Ordering.{kept_machine, put_in_order, some_kept, calls_of, port_alone, store_alone, in_order, ports_ordered, read_ordered, kept_ordered, devices_ordered}
 use Rattle.nbt_net.proofs.Parts.{acts-append, quiet_reading, IsInOrder, all_in_order, all-append, all_stored, Part, still_acted, just_acted}
 use Rattle.nbt_net.proofs.ServerTurns.{one_lived}

@@ -1,21 +1,18 @@
 -- A turn of a server without a state is a part of its life with its devices.
-use Rattle.std.proofs.Common.{◌≡◌, ◌<◌, ◌≤◌, ◌+◌, ℕ, List, [], ◌∷◌, ◌++◌, length, Contains, Option, Some, None, refl, sym, ap, subst, ◌∙◌, append-nil, inl, inr, arith}
+use Rattle.std.proofs.Common.{◌≡◌, ◌<◌, ◌≤◌, ◌+◌, ℕ, List, [], ◌∷◌, ◌++◌, length, Some, None, refl, sym, ap, subst, ◌∙◌, append-nil, inl, inr, arith}
 use Rattle.std.specs.List.{flat_map}
 use Rattle.std.proofs.lemmas.List.Elements.{Contains-append_right}
 use Rattle.nbt_lease.specs.Config.{ConfigValue}
-use Rattle.nbt_packet.specs.Message.{MessageValue}
 use Rattle.nbt_packet.specs.Text.{text}
-use Rattle.nbt_port.specs.declared.port.Route.{Route}
 use Rattle.nbt_port.specs.PortCalls.{PortCall, nothing_came, came, receive_failed, sent, send_failed, Chain}
 use Rattle.nbt_port.proofs.Chains.{chain_one}
 use Rattle.nbt_server.specs.Serving.{ServerValue}
 use Rattle.nbt_store.specs.Calls.{StoreCall}
-use Rattle.nbt_log.specs.declared.entry.Entry.{Entry}
-use Rattle.nbt_serve.specs.Serving.{Turn, is_empty, is_taken, is_lost, acts_in as calls_in_turn, moments_in, Turns, WatchesTurn, Failure, of_receive, of_send, acts_of as calls_of_failure, moments_of, Fails, Breaks}
+use Rattle.nbt_serve.specs.Serving.{Turn, is_empty, is_taken, is_lost, acts_in as calls_in_turn, moments_in, Turns, Failure, of_receive, of_send, acts_of as calls_of_failure, moments_of, Fails, Breaks}
 use Rattle.nbt_net.specs.Wire.{Act}
 use Rattle.nbt_net.specs.Servers.{up, ServerLives, breaks_turn}
 use Rattle.nbt_net.specs.Turns.{act_of}
-use Rattle.nbt_net.specs.Devices.{Call, of_port, reads, Machine, StoreDoes, Story, going_on, IsOfAnAct, AreActs, ends, is_quiet, acts_on, sends, loses}
+use Rattle.nbt_net.specs.Devices.{of_port, reads, going_on, ends, is_quiet, acts_on, sends, loses}
 use Rattle.nbt_net.proofs.Ordering.{bare_machine, put_in_order}
 use Rattle.nbt_net.proofs.Parts.{Always, Part, just_acted}
 use Rattle.nbt_net.proofs.ServerTurns.{one_lived}

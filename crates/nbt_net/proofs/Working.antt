@@ -7,12 +7,10 @@ use Rattle.nbt_port.specs.PortCalls.{PortCall, Chain}
 use Rattle.nbt_port.proofs.Chains.{chain_one, chain-append}
 use Rattle.nbt_server.specs.Serving.{ServerValue}
 use Rattle.nbt_store.specs.Calls.{StoreCall}
-use Rattle.nbt_store.specs.declared.header.Header.{Header}
 use Rattle.nbt_serve.specs.Devices.{DeviceCall}
-use Rattle.nbt_serve.specs.Looking.{Desk, LooksAfter, FailsToLook}
 use Rattle.nbt_serve.specs.Runs as runs
-use Rattle.nbt_serve.specs.Runs.{Held, Seen, Steps, Ends, Runs, calls_in}
-use Rattle.nbt_serve.specs.Turning.{Took, Takes, TakesAny, Passes, Fails, Keeping, KeepsTurn, BreaksKeeping, devices_of}
+use Rattle.nbt_serve.specs.Runs.{Held, Seen, Steps, Runs, calls_in}
+use Rattle.nbt_serve.specs.Turning.{Took, TakesAny, Passes, Fails, Keeping, KeepsTurn, BreaksKeeping, devices_of}
 use Rattle.nbt_serve.specs.Waiting.{ReplyValue}
 use Rattle.nbt_serve.specs.declared.fault.KeepFault.{KeepFault}
 use Rattle.nbt_serve.specs.declared.fault.KeepFault.TheVariants as fault

@@ -1,5 +1,5 @@
 -- A whole server lives, from its start to its end.
-use Rattle.std.proofs.Common.{◌≡◌, ℕ, Bool, false, List, [], Option, Some, None, refl, sym, ap, subst, ◌∙◌}
+use Rattle.std.proofs.Common.{◌≡◌, ℕ, Bool, false, [], Some, None, refl, sym, ap, subst, ◌∙◌}
 use Rattle.nbt_port.specs.Clocks.{MachineTells, SteadyTells, SystemShows, TellsAhead}
 use Rattle.nbt_port.specs.Until.{until_of}
 use Rattle.nbt_port.specs.declared.ahead.Ahead.{Ahead}
