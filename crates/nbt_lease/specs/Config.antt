@@ -23,6 +23,13 @@ rows_most = 4096
 abbrev pub IsRows : ℕ → Type 0
 IsRows rows = (1 ≤ rows) × (rows ≤ rows_most)
 
+-- the live leases of a large server
+abbrev pub large_rows_most : ℕ
+large_rows_most = 1048576
+
+abbrev pub IsLargeRows : ℕ → Type 0
+IsLargeRows rows = (1 ≤ rows) × (rows ≤ large_rows_most)
+
 -- A configuration as contracts see it.
 pub record ConfigValue : Type 0 where
   pub life : ℕ
@@ -35,7 +42,7 @@ config_of life longest rows = record { life = life; longest = longest; rows = ro
 pub record IsConfig (config : ConfigValue) : Type 0 where
   pub life : IsLife config.life
   pub longest : IsLongest config.longest
-  pub rows : IsRows config.rows
+  pub rows : IsLargeRows config.rows
 
 -- The seconds granted where ttl seconds are requested: the longest lease if ttl is 0, else the smaller of the two. A reply's ttl is read in the same way.
 abbrev pub granted : ℕ → ℕ → ℕ

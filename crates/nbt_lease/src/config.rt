@@ -1,7 +1,7 @@
 //! The limits that a server and its nodes share.
 
 ghost use Rattle.std.specs.Prelude.{◌≡◌, ◌*◌, ◌<◌, ◌≤◌, ◌↔◌, IsOk, IfOk, IsErrOf};
-ghost use Rattle.nbt_lease.specs.Config.{IsConfig, IsLife, IsLongest, IsRows, config_of, granted, milliseconds};
+ghost use Rattle.nbt_lease.specs.Config.{IsConfig, IsLife, IsLargeRows, IsLongest, IsRows, config_of, granted, milliseconds};
 ghost use Rattle.nbt_lease.specs.Drift.{hold, quiet};
 
 use crate::fault::ConfigFault;
@@ -37,6 +37,9 @@ pub const LONGEST_MOST: u32 = 1_000_000;
 /// The most live leases of a server (our profile).
 pub const ROWS_MOST: usize = 4_096;
 
+/// The most live leases of a large server (our profile).
+pub const LARGE_ROWS_MOST: usize = 1_048_576;
+
 impl Config {
     /// The limits `life` in milliseconds, `longest` in seconds and `rows` in leases. Refused in this order: `Life` (1) if
     /// `life` isn't 1 to 60,000, `Longest` (2) if `longest` isn't 1 to 1,000,000, `Rows` (3) if `rows` isn't 1 to 4,096. Our
@@ -66,6 +69,32 @@ impl Config {
         })
     }
 
+    /// The limits of a server of more leases: as `new`, but `rows` is 1 to 1,048,576. Our profile.
+    pub fn large(life: u64, longest: u32, rows: usize) -> Result<Config, ConfigFault>
+        ensures found { IsOk result ↔ (IsLife life × IsLongest longest × IsLargeRows rows) }
+        ensures value { IfOk result (λ config. config ≡ config_of life longest rows) }
+
+        // Which fault it is.
+        ensures life { IsErrOf result ConfigFault.Life ↔ (¬ IsLife life) }
+        ensures longest { IsErrOf result ConfigFault.Longest ↔ (IsLife life × (¬ IsLongest longest)) }
+        ensures rows { IsErrOf result ConfigFault.Rows ↔ (IsLife life × IsLongest longest × (¬ IsLargeRows rows)) }
+    {
+        if life == 0 || life > LIFE_MOST {
+            return Err(ConfigFault::Life);
+        }
+        if longest == 0 || longest > LONGEST_MOST {
+            return Err(ConfigFault::Longest);
+        }
+        if rows == 0 || rows > LARGE_ROWS_MOST {
+            return Err(ConfigFault::Rows);
+        }
+        Ok(Config {
+            life,
+            longest,
+            rows,
+        })
+    }
+
     /// The greatest life of one datagram, 1 to 60,000 milliseconds.
     pub fn life(self) -> u64
         ensures value { result ≡ self.life }
@@ -82,7 +111,7 @@ impl Config {
         self.longest
     }
 
-    /// The most live leases of a server, 1 to 4,096.
+    /// The most live leases of a server, 1 to 1,048,576.
     pub fn rows(self) -> usize
         ensures value { result ≡ self.rows }
         ensures config { IsConfig self }

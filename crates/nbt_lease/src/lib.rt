@@ -21,7 +21,7 @@ mod standing;
 mod table;
 mod tally;
 
-pub use config::{Config, LIFE_MOST, LONGEST_MOST, ROWS_MOST};
+pub use config::{Config, LARGE_ROWS_MOST, LIFE_MOST, LONGEST_MOST, ROWS_MOST};
 pub use fault::{ConfigFault, GrantFault, RestoreFault};
 pub use lease::{Grant, Lease, Released};
 pub use looks::Looks;

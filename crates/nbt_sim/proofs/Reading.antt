@@ -3,14 +3,14 @@ use Rattle.std.proofs.Common.{◌≡◌, ℕ, List, [], ◌∷◌, Option, Some,
 use Rattle.std.specs.Prelude.{◌↔◌, IfOk, IsSomeAnd, MatchOption}
 use Rattle.std.specs.Global.{Vec}
 use Rattle.nbt_name.specs.declared.addr.Addr.{Addr}
-use Rattle.nbt_lease.specs.Config.{ConfigValue, IsConfig, config_of}
+use Rattle.nbt_lease.specs.Config.{ConfigValue, config_of}
 use Rattle.nbt_text.specs.Address.{SpellsAddress}
 use Rattle.nbt_text.specs.Lines.{SpellsOctets}
 use Rattle.nbt_text.specs.Number.{SpellsNumber}
 use Rattle.nbt_sim.specs.declared.instruction.Instruction.{Instruction}
 use Rattle.nbt_sim.specs.declared.instruction.Instruction.TheVariants.{Kept}
 use Rattle.nbt_sim.specs.declared.verb.Verb.{Verb}
-use Rattle.nbt_sim.specs.Arguments.{NoMore, Then, SpellsWorld, first, second, third, fourth}
+use Rattle.nbt_sim.specs.Arguments.{NoMore, Then, AreLimits, SpellsWorld, first, second, third, fourth}
 use Rattle.nbt_sim.specs.Line.{Makes, Says, says, SaysOf, SpellsComing}
 use Rattle.nbt_sim.specs.Words.{SpellsEnd, verb_word}
 
@@ -41,7 +41,7 @@ Four = ℕ × (ℕ × (ℕ × (ℕ × Unit {0})))
 
 -- the numbers were read, and their limits are refused or not
 abbrev ReadsLimits : Four → Option ConfigValue → Type 0
-ReadsLimits n found = (x : ConfigValue) → (found ≡ Some x) ↔ (IsConfig (config_of (first n) (second n) (third n)) × (x ≡ config_of (first n) (second n) (third n)))
+ReadsLimits n found = (x : ConfigValue) → (found ≡ Some x) ↔ (AreLimits (first n) (second n) (third n) × (x ≡ config_of (first n) (second n) (third n)))
 
 module _ (ws : List (List ℕ)) (found : Option Four) (reads : Reads Four found (Then SpellsNumber (Then SpellsNumber (Then SpellsNumber (Then SpellsNumber NoMore))) ws)) where
   pub no_numbers : (r : Option (ConfigValue × ℕ)) (w : ConfigValue × ℕ) → found ≡ None → r ≡ None → (r ≡ Some w) ↔ SpellsWorld ws w
@@ -53,7 +53,7 @@ module _ (ws : List (List ℕ)) (found : Option Four) (reads : Reads Four found 
     λ s.
         let there = (reads s.numbers).1 s.spelled in
         let same : s.numbers ≡ n = cc in
-        let fits = rw same at s.is_config in
+        let fits = rw same at s.are_limits in
         let also = (tells (config_of (first n) (second n) (third n))).1 (fits, refl) in absurd cc,
   )
 
@@ -62,7 +62,7 @@ module _ (ws : List (List ℕ)) (found : Option Four) (reads : Reads Four found 
     λ e.
         let known = (tells config).0 there in
         let same : w ≡ (config, fourth n) = cc in
-        record { numbers = n; spelled = (reads n).0 some; is_config = known.0; world_is = same ∙ ap (λ (x : ConfigValue). (x, fourth n)) known.1 },
+        record { numbers = n; spelled = (reads n).0 some; are_limits = known.0; world_is = same ∙ ap (λ (x : ConfigValue). (x, fourth n)) known.1 },
     λ s.
         let known = (tells config).0 there in
         let also = (reads s.numbers).1 s.spelled in

@@ -1,7 +1,7 @@
 -- What the words after a verb spell: kinds of argument, one after the other (our profile).
 use Rattle.std.specs.Prelude.{◌≡◌, ℕ, ◌≤◌, List, [], ◌∷◌, length}
 use Rattle.arrayvec.specs.ArrayVec.{ArrayVec}
-use Rattle.nbt_lease.specs.Config.{ConfigValue, IsConfig, config_of}
+use Rattle.nbt_lease.specs.Config.{ConfigValue, IsLife, IsLongest, IsRows, config_of}
 use Rattle.nbt_text.specs.Number.{SpellsNumber}
 
 -- no word is left
@@ -29,11 +29,15 @@ third values = values.1.1.0
 abbrev pub fourth : {A B C D E : Type 0} → A × (B × (C × (D × E))) → D
 fourth values = values.1.1.1.0
 
+-- the limits that a world may have
+abbrev pub AreLimits : (life longest rows : ℕ) → Type 0
+AreLimits life longest rows = IsLife life × IsLongest longest × IsRows rows
+
 -- LIFE LONGEST ROWS NODES: the limits of a world, and how many nodes it has
 pub record SpellsWorld (words : List (List ℕ)) (world : ConfigValue × ℕ) : Type 0 where
   pub numbers : ℕ × (ℕ × (ℕ × (ℕ × Unit {0})))
   pub spelled : Then SpellsNumber (Then SpellsNumber (Then SpellsNumber (Then SpellsNumber NoMore))) words numbers
-  pub is_config : IsConfig (config_of (first numbers) (second numbers) (third numbers))
+  pub are_limits : AreLimits (first numbers) (second numbers) (third numbers)
   pub world_is : world ≡ (config_of (first numbers) (second numbers) (third numbers), fourth numbers)
 
 -- each word a number

@@ -1,7 +1,8 @@
 //! The words after the first one of a line: endpoints, addresses, kinds, numbers.
 
 ghost use Rattle.std.specs.Prelude.{◌≡◌, ◌↔◌, ℕ, Some};
-ghost use Rattle.nbt_lease.specs.Config.{ConfigValue, IsConfig, config_of as limits_of};
+ghost use Rattle.nbt_lease.specs.Config.{ConfigValue, config_of as limits_of};
+ghost use Rattle.nbt_sim.specs.Arguments.{AreLimits};
 ghost use Rattle.nbt_sim.specs.Words.{SpellsEnd, SpellsNode};
 
 use crate::argument::{Argument, Arguments};
@@ -220,7 +221,7 @@ impl Arguments for NewWorld {
 /// The limits of these numbers, of which `longest` may be too large for one.
 fn limits(life: u64, longest: u64, rows: usize) -> Option<Config>
     ensures { (config : ConfigValue) → (result ≡ Some config)
-        ↔ (IsConfig (limits_of life longest rows) × (config ≡ limits_of life longest rows)) }
+        ↔ (AreLimits life longest rows × (config ≡ limits_of life longest rows)) }
 {
     Config::new(life, u32::try_from(longest).ok()?, rows).ok()
 }

@@ -13,7 +13,7 @@ use crate::spare::{
     write_zeros,
 };
 use crate::syncs::Syncs;
-use nbt_lease::ROWS_MOST;
+use nbt_lease::LARGE_ROWS_MOST;
 use std::alloc::Global;
 use std::cell::Cell;
 use std::fs::{File, Metadata, OpenFile, Permissions};
@@ -320,7 +320,7 @@ fn check_mark<R: Files>(machine: &R, path: &str, mark: Mark) -> io::Result<()> {
 
 /// A file has fewer octets: this is more than any store writes, by the lines that it has at most where a server has as many leases as it may.
 fn file_most() -> u64 {
-    lines_most(ROWS_MOST as u64)
+    lines_most(LARGE_ROWS_MOST as u64)
         .saturating_mul(LINE_MOST)
         .saturating_add(ROOM)
 }
