@@ -157,7 +157,7 @@ agrees_none es ds none empty = rw (none, empty) (record { names = none_distinct 
 
 -- ---- what is taken out is the end that was due
 
-only_bool : (x y t : Bool) → (x || y) ≡ false → (x || (t || y)) ≡ true → t ≡ true
+pub only_bool : (x y t : Bool) → (x || y) ≡ false → (x || (t || y)) ≡ true → t ≡ true
 only_bool x y true none there = refl
 only_bool x y false none there = absurd (both_ways (x || y) none there)
 

@@ -12,7 +12,7 @@ pub use Rattle.std.specs.declared.cmp.Ordering.{Ordering}
 pub use Rattle.std.specs.declared.cmp.Ordering.TheVariants.{Equal, Greater, Less}
 pub use Rattle.std.proofs.Math.Bool.{or-false}
 pub use Rattle.std.proofs.Math.Seq.{get_or-append_seam, set-append_seam}
-pub use Rattle.std.proofs.lemmas.Bool.{and_from, and_parts, and_right, both_ways, cases_Bool, cases_eq, cases_lt, cond-false, cond-true, cond_both, eq-eqb, eqb-true, false_from_ne_true, false≢true, le-ltb, leb-false, leb-true, lt-ltb, ltb-false, ltb-true, ne_eqb, not-true, or_right}
+pub use Rattle.std.proofs.lemmas.Bool.{and_from, and_parts, and_right, both_ways, cases_Bool, cases_eq, cases_lt, cond-false, cond-true, cond_both, eq-eqb, eqb-true, and_cases, false_from_ne_true, false≢true, le-ltb, leb-false, leb-true, lt-ltb, ltb-false, ltb-true, ne_eqb, not-true, or_parts, or_right}
 pub use Rattle.std.proofs.lemmas.List.{append-nil, append_assoc, drop_more, length-append, length-map, length-take-le, map-append, nil_from_length, take-append-drop, take_all, take_more}
 pub use Rattle.std.proofs.lemmas.List.Elements.{All-append, All-cons, All-contains, All-filter, All-from_recursion, All-head, All-nil, All-tail, All-weaker, Contains-append_cases, Contains-append_left, Contains-append_right, Contains-push, Contains-push_cases, filter-append, recursion_from_All}
 pub use Rattle.std.proofs.lemmas.List.Folds.{list_any-append}
@@ -26,7 +26,7 @@ pub use Rattle.nbt_name.specs.Wire.{NameValue, same_name}
 pub use Rattle.nbt_name.specs.declared.addr.Kind.{Kind}
 pub use Rattle.nbt_name.specs.declared.addr.Kind.TheVariants.{Group, Unique}
 pub use Rattle.nbt_lease.specs.Config.{ConfigValue, granted}
-pub use Rattle.nbt_lease.specs.Inner.Index.{Agrees, AreLive, due, Ended, Entries, has_end, if_any, in_set, is_due, is_live_of, IsMember, members_of, Moves, Renewed, rows_of, TakenFrom}
+pub use Rattle.nbt_lease.specs.Inner.Index.{Agrees, AreLive, due, Ended, Entries, has_end, has_over, if_any, in_set, is_due, is_live_of, IsMember, living, members_of, Moves, Renewed, rows_of, TakenFrom}
 pub use Rattle.nbt_lease.specs.Inner.Placing.{HoldsLive, Places}
 pub use Rattle.nbt_lease.specs.Inner.Standing.{HasOne, StandsIn}
 pub use Rattle.nbt_lease.specs.Lease.{AreApart, AreGroup, AreOneKind, AreSound, at_name, group, HasNone, is_live, IsSound, latest_end, Leases, leases_at, live_count, members_most, Rows, TableValue, unique}

@@ -1,8 +1,9 @@
 -- The search for an requester's lease, as far as it has come.
-use Rattle.std.proofs.Common.{◌≡◌, ◌≢◌, ℕ, ◌+◌, ◌<◌, ◌↔◌, Bool, true, false, IsTrue, List, [], ◌∷◌, ◌++◌, length, take, get_or, refl, sym, ap, ◌∙◌, subst, ⊎_elim, arith}
-use Rattle.nbt_lease.proofs.Common.{cases_eq, both_ways, false≢true, append_assoc, take_more, length-append, Unique, Group, Lease, Standing, HasNone, AreGroup, HasOne, StandsIn, Asked, IsAllowed, free, member, owner}
+use Rattle.std.proofs.Common.{◌≡◌, ◌≢◌, ℕ, ◌+◌, ◌<◌, ◌≤◌, ◌↔◌, Bool, true, false, IsTrue, List, [], ◌∷◌, ◌++◌, length, take, get_or, refl, sym, ap, ◌∙◌, subst, ⊎_elim, arith}
+use Rattle.nbt_lease.proofs.Common.{filter, cases_eq, both_ways, false≢true, append-nil, append_assoc, filter-append, le-ltb, lt-ltb, take_more, length-append, Unique, Group, Lease, Standing, is_live, HasNone, AreGroup, HasOne, StandsIn, Asked, IsAllowed, free, member, owner}
 use Rattle.nbt_lease.proofs.Sound.{all_front, all_behind, all_joined}
 use Rattle.nbt_lease.proofs.Cases.{kind_cases, kinds_differ}
+use Rattle.nbt_lease.proofs.Flat.{live_front, over_front}
 
 -- before the first lease
 pub none_found : (addr : ℕ) → StandsIn addr [] (record { own = false; members = 0; group = true })
@@ -48,8 +49,23 @@ one_more_stands addr leases lease old new adds so_far = record {
   none = none_more addr leases lease old new adds so_far.none;
 }
 
-pub added : (addr i : ℕ) (leases : List Lease) (d : Lease) (old new : Standing) → i < length leases → Adds (get_or leases i d) addr old new → StandsIn addr (take i leases) old → StandsIn addr (take (i + 1) leases) new
-added addr i leases d old new within adds so_far = subst (λ (ls : List Lease). StandsIn addr ls new) (sym (take_more leases i d within)) (one_more_stands addr (take i leases) (get_or leases i d) old new adds so_far)
+-- of the next one, if it lives
+pub added : (addr now i : ℕ) (leases : List Lease) (d : Lease) (old new : Standing) → i < length leases → now < (get_or leases i d).end → Adds (get_or leases i d) addr old new → StandsIn addr (filter (is_live now) (take i leases)) old → StandsIn addr (filter (is_live now) (take (i + 1) leases)) new
+added addr now i leases d old new within live adds so_far =
+    let next : Lease = get_or leases i d in
+    let more : filter (is_live now) (take (i + 1) leases) ≡ filter (is_live now) (take i leases) ++ next ∷ [] =
+        ap (filter (is_live now)) (take_more leases i d within)
+        ∙ (filter-append (is_live now) (take i leases) (next ∷ []) ∙ ap (λ (ls : List Lease). filter (is_live now) (take i leases) ++ ls) (live_front now next [] (lt-ltb now next.end live))) in
+    subst (λ (ls : List Lease). StandsIn addr ls new) (sym more) (one_more_stands addr (filter (is_live now) (take i leases)) next old new adds so_far)
+
+pub passed_by : (addr now i : ℕ) (leases : List Lease) (d : Lease) (standing : Standing) → i < length leases → (get_or leases i d).end ≤ now → StandsIn addr (filter (is_live now) (take i leases)) standing → StandsIn addr (filter (is_live now) (take (i + 1) leases)) standing
+passed_by addr now i leases d standing within over so_far =
+    let next : Lease = get_or leases i d in
+    let same : filter (is_live now) (take (i + 1) leases) ≡ filter (is_live now) (take i leases) =
+        ap (filter (is_live now)) (take_more leases i d within)
+        ∙ (filter-append (is_live now) (take i leases) (next ∷ [])
+        ∙ (ap (λ (ls : List Lease). filter (is_live now) (take i leases) ++ ls) (over_front now next [] (le-ltb now next.end over)) ∙ append-nil (filter (is_live now) (take i leases)))) in
+    subst (λ (ls : List Lease). StandsIn addr ls standing) (sym same) so_far
 
 -- ---- what was found
 

@@ -109,10 +109,10 @@ counted es ds h =
 
 -- ---- the leases of each name
 
-live_front : (m : ℕ) (x : Lease) (xs : List Lease) → is_live m x ≡ true → filter (is_live m) (x ∷ xs) ≡ x ∷ filter (is_live m) xs
+pub live_front : (m : ℕ) (x : Lease) (xs : List Lease) → is_live m x ≡ true → filter (is_live m) (x ∷ xs) ≡ x ∷ filter (is_live m) xs
 live_front m x xs live = rw live refl
 
-over_front : (m : ℕ) (x : Lease) (xs : List Lease) → is_live m x ≡ false → filter (is_live m) (x ∷ xs) ≡ filter (is_live m) xs
+pub over_front : (m : ℕ) (x : Lease) (xs : List Lease) → is_live m x ≡ false → filter (is_live m) (x ∷ xs) ≡ filter (is_live m) xs
 over_front m x xs over = rw over refl
 
 leases_here : (m : ℕ) (name q : NameValue) (leases : List Lease) → same_name name q ≡ true → leases_at m (rows_at name leases) q ≡ filter (is_live m) leases

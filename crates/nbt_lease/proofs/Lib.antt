@@ -10,6 +10,7 @@ pub mod Dues
 pub mod Ending
 pub mod Flat
 pub mod Agreeing
+pub mod Living
 pub mod Placing
 pub mod Least
 pub mod Restored

@@ -1,7 +1,7 @@
 -- Leases that are begun from kept rows.
 use Rattle.std.specs.Result.{is_err}
 use Rattle.std.proofs.Common.{Result, Ok, Err, OnOk, ◌≡◌, ◌≢◌, ℕ, suc, ◌+◌, take, drop, get_or, ◌<◌, ◌≤◌, Bool, true, false, List, [], ◌∷◌, ◌++◌, length, ◌↔◌, refl, sym, ap, ◌∙◌, subst, ◌⊎◌, inl, inr, ⊎_elim, arith}
-use Rattle.nbt_lease.proofs.Common.{nil_from_length, false≢true, take_more, take-append-drop, IsDistinct, keys_of, cases_Bool, lt-ltb, le-ltb, length-append, append-nil, NameValue, same_name, Unique, Group, Lease, Rows, Leases, leases_at, live_count, HasNone, AreApart, AreGroup, AreOneKind, AreSound, members_most, group, unique, Entries, members_of, rows_of, AreLive, HasOne}
+use Rattle.nbt_lease.proofs.Common.{filter, nil_from_length, false≢true, take_more, take-append-drop, IsDistinct, keys_of, cases_Bool, lt-ltb, le-ltb, length-append, append-nil, NameValue, same_name, Unique, Group, Lease, Rows, Leases, is_live, leases_at, live_count, HasNone, AreApart, AreGroup, AreOneKind, AreSound, members_most, group, unique, Entries, members_of, rows_of, AreLive, HasOne, Standing, StandsIn}
 use Rattle.nbt_lease.specs.Inner.Standing.{MayStand}
 use Rattle.nbt_lease.proofs.Sound.{all_front, all_behind, all_joined, apart_push, alone}
 use Rattle.nbt_lease.proofs.Rows.{same_leases, leases_at-append, live_count-append, row_over, row_of_other, none_live, later_is, count_lives, count_over, none_count}
@@ -9,7 +9,7 @@ use Rattle.nbt_lease.proofs.Counts.{same_count, last_at}
 use Rattle.nbt_lease.proofs.Others.{here}
 use Rattle.nbt_name.proofs.Same.{same_name-true}
 use Rattle.nbt_lease.proofs.Agreeing.{none_distinct}
-use Rattle.nbt_lease.proofs.Flat.{all_counted, leases_members, live_left}
+use Rattle.nbt_lease.proofs.Flat.{all_counted, all_live, leases_members, live_left}
 
 -- ---- the first of sound leases are sound
 
@@ -102,15 +102,19 @@ over_more now rows name lease over =
     ∙ (ap (λ (ls : List Lease). leases_at now rows q ++ ls) (row_over now (name, lease) [] q (le-ltb now lease.end over) ∙ none_live now q)
     ∙ append-nil (leases_at now rows q)))
 
+pub all_live_at : (m : ℕ) (rows : Rows) (q : NameValue) → AreLive m (leases_at m rows q)
+all_live_at m rows q = subst (AreLive m) (sym (later_is m m rows q (omega arith))) (live_left m (leases_at m rows q))
+
+-- how an address stands among leases that all live
+pub stands_so : (m addr : ℕ) (slice leases : List Lease) (standing : Standing) → slice ≡ leases → AreLive m leases → StandsIn addr (filter (is_live m) slice) standing → StandsIn addr leases standing
+stands_so m addr slice leases standing is live found = subst (λ (ls : List Lease). StandsIn addr ls standing) (ap (filter (is_live m)) is ∙ all_live m leases live) found
+
 -- all of them live, and are as many
 pub counted_live : (now : ℕ) (es : Entries) (rows : Rows) → IsDistinct same_name (keys_of es) → members_of es ≡ leases_at now rows → (leases_at now (rows_of es) ≡ leases_at now rows) × (length (rows_of es) ≡ live_count now rows)
 counted_live now es rows names is =
     let live : (q : NameValue) → AreLive now (members_of es q) = λ q. subst (AreLive now) (sym (ap (λ (f : Leases). f q) is)) (all_live_at now rows q) in
     let same : leases_at now (rows_of es) ≡ leases_at now rows = leases_members now es names live ∙ is in
     (same, sym (all_counted now es names live) ∙ same_count now (rows_of es) rows same)
-  where
-    all_live_at : (m : ℕ) (rs : Rows) (q : NameValue) → AreLive m (leases_at m rs q)
-    all_live_at m rs q = subst (AreLive m) (sym (later_is m m rs q (omega arith))) (live_left m (leases_at m rs q))
 
 -- ---- whether a lease may stand, as the code finds it
 

@@ -1,13 +1,13 @@
 //! The leases by name, and their expiries in order.
 
-ghost use Rattle.std.specs.Prelude.{◌≡◌, ◌+◌, ◌<◌, ◌≤◌, ◌↔◌, IsTrue, true, [], ◌∷◌, ◌++◌, length, map, filter, IfOk, IfSome, IfNone, OnOk, OnErr, if◌then◌else◌};
+ghost use Rattle.std.specs.Prelude.{◌≡◌, ◌+◌, ◌<◌, ◌≤◌, ◌↔◌, IsTrue, true, false, [], ◌∷◌, ◌++◌, length, map, filter, IfOk, IfSome, IfNone, OnOk, OnErr, if◌then◌else◌};
 ghost use Rattle.std.specs.Bool.{OnFalse};
 ghost use Rattle.std.specs.List.{IsDistinct};
 ghost use Rattle.std.specs.Map.{keys_of};
 ghost use Rattle.nbt_name.specs.Wire.{NameValue};
 ghost use Rattle.nbt_lease.specs.Lease.{count_of};
 ghost use Rattle.nbt_lease.specs.declared.ends.Due.{Due};
-ghost use Rattle.nbt_lease.specs.Inner.Index.{rows_of, in_set};
+ghost use Rattle.nbt_lease.specs.Inner.Index.{rows_of, in_set, has_over};
 
 use crate::both::{begin_in, take_out};
 use crate::ends::Ends;
@@ -43,7 +43,7 @@ impl Model for Index {
 impl Index {
     ghost use Rattle.nbt_name.specs.Wire.{same_name};
     ghost use Rattle.nbt_lease.specs.Lease.{is_live, at_name, HasNone};
-    ghost use Rattle.nbt_lease.specs.Inner.Index.{members_of, AreLive, Renewed, Moves, Ended};
+    ghost use Rattle.nbt_lease.specs.Inner.Index.{members_of, living, AreLive, Renewed, Moves, Ended};
 
     /// No leases. Takes no memory.
     pub fn new(alloc: Global) -> Index
@@ -121,10 +121,10 @@ impl Index {
     /// member. Only an expiry that moves takes memory: the set grows by the new one before the old one goes. If out of
     /// memory, the leases are as before.
     pub fn renew(&mut self, name: &Name, addr: u32, end: u64) -> Result<Option<u64>, AllocError>
-        ensures renewed { IfOk result (λ found. IfSome found (λ until. Renewed self.old name.now addr end until (members_of self.new))) }
+        ensures renewed { IfOk result (λ found. IfSome found (λ until. Renewed (members_of self.old) name.now addr end until (members_of self.new))) }
         ensures none { IfOk result (λ found. IfNone found (HasNone addr (members_of self.old name.now))) }
         ensures none_left { IfOk result (λ found. IfNone found (members_of self.new ≡ members_of self.old)) }
-        ensures moves { OnErr result (Moves self.old name.now addr end) }
+        ensures moves { OnErr result (Moves (members_of self.old) name.now addr end) }
         ensures unchanged { OnErr result (members_of self.new ≡ members_of self.old) }
         ensures count { length (rows_of self.new) ≡ length (rows_of self.old) }
         ensures names { IsDistinct same_name (keys_of self.new) }
@@ -146,9 +146,10 @@ impl Index {
 
     /// Removes the lease of the name and the address, if there is one. Takes no memory.
     pub fn end(&mut self, name: &Name, addr: u32) -> bool
-        ensures gone { IsTrue result → Ended self.old name.now addr (members_of self.new) }
+        ensures gone { IsTrue result → Ended (members_of self.old) name.now addr (members_of self.new) }
         ensures none { OnFalse result (HasNone addr (members_of self.old name.now)) }
         ensures unchanged { OnFalse result (members_of self.new ≡ members_of self.old) }
+        ensures left { HasNone addr (members_of self.new name.now) }
         ensures count { length (rows_of self.new) ≤ length (rows_of self.old) }
         ensures names { IsDistinct same_name (keys_of self.new) }
     {
@@ -157,6 +158,20 @@ impl Index {
         };
         self.ends.remove(lease.end, name, addr);
         true
+    }
+
+    /// Removes the lease of the name and the address, if it is over at `now`. Takes no memory.
+    pub fn end_over(&mut self, name: &Name, addr: u32, now: u64)
+        requires names { IsDistinct same_name (keys_of self.old) }
+        ensures leases { living now self.new ≡ living now self.old }
+        ensures none { has_over addr now (members_of self.new name.now) ≡ false }
+        ensures fewer { length (rows_of self.new) ≤ length (rows_of self.old) }
+        ensures names { IsDistinct same_name (keys_of self.new) }
+    {
+        if !has_over(self.members(name), addr, now) {
+            return;
+        }
+        self.end(name, addr);
     }
 
     /// Removes the lease that expired first, if one is over at `now`. Takes no memory.
@@ -202,6 +217,15 @@ impl Index {
             left -= 1;
         }
     }
+}
+
+/// Whether one of these leases is of this address and over at `now`.
+fn has_over(leases: &[Lease], addr: u32, now: u64) -> bool
+    ensures { result ≡ has_over addr now leases.now }
+{
+    leases
+        .iter()
+        .any(|lease| lease.addr == addr && lease.end <= now)
 }
 
 /// Whether any lease is over at `now`, without counting the look.

@@ -5,7 +5,7 @@ ghost use Rattle.std.specs.List.{IsDistinct};
 ghost use Rattle.std.specs.Map.{keys_of};
 ghost use Rattle.nbt_name.specs.Wire.{NameValue, same_name};
 ghost use Rattle.nbt_lease.specs.Lease.{Rows, leases_at, live_count, AreSound};
-ghost use Rattle.nbt_lease.specs.Inner.Index.{members_of};
+ghost use Rattle.nbt_lease.specs.Inner.Index.{members_of, AreLive};
 
 use crate::fault::RestoreFault;
 use crate::index::Index;
@@ -55,6 +55,7 @@ fn begin_one(
     lease: Lease,
 ) -> Result<(), RestoreFault>
     requires sound { AreSound latest (members_of index.old name.now) }
+    requires live { AreLive now (members_of index.old name.now) }
     requires names { IsDistinct same_name (keys_of index.old) }
     ensures leases { OnOk result ((rows : Rows) → members_of index.old ≡ leases_at now rows → members_of index.new ≡ leases_at now (rows ++ (name.now, lease) ∷ [])) }
     ensures sound { OnOk result ((rows : Rows) → members_of index.old ≡ leases_at now rows → AreSound latest (leases_at now (rows ++ (name.now, lease) ∷ []) name.now)) }
@@ -65,7 +66,7 @@ fn begin_one(
     if lease.end <= now {
         return Ok(());
     }
-    let standing = Standing::find(index.members(name), lease.addr);
+    let standing = Standing::find(index.members(name), lease.addr, now);
     if latest < lease.end || !standing.admits(lease.kind) {
         return Err(RestoreFault::Unsound);
     }

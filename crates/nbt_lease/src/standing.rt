@@ -1,6 +1,6 @@
 //! How a requester stands with a name.
 
-ghost use Rattle.std.specs.Prelude.{◌≡◌, ◌≢◌, ◌+◌, ◌<◌, ◌≤◌, ◌↔◌, true, false, IsTrue, length, List};
+ghost use Rattle.std.specs.Prelude.{◌≡◌, ◌≢◌, ◌+◌, ◌<◌, ◌≤◌, ◌↔◌, true, false, IsTrue, length, filter, List};
 ghost use Rattle.nbt_lease.specs.declared.lease.Lease.{Lease};
 
 use crate::lease::Lease;
@@ -9,12 +9,12 @@ use nbt_name::Kind;
 /// The most live members of a group (our profile).
 const MEMBERS_MOST: usize = 1_000;
 
-/// How a requester stands with a name, all of whose leases live.
+/// How a requester stands with a name: among those of its leases that live.
 #[derive(Drop)]
 pub(crate) struct Standing {
-    /// Whether one of the name's leases is the requester's.
+    /// Whether one of them is the requester's.
     pub own: bool,
-    /// How many leases the name has.
+    /// How many they are.
     pub members: usize,
     /// Whether all of them are of a group.
     pub group: bool,
@@ -22,12 +22,12 @@ pub(crate) struct Standing {
 
 impl Standing {
     ghost use Rattle.nbt_lease.specs.Inner.Standing.{StandsIn, MayStand};
-    ghost use Rattle.nbt_lease.specs.Lease.{members_most};
+    ghost use Rattle.nbt_lease.specs.Lease.{is_live, members_most};
     ghost use Rattle.nbt_lease.specs.Rules.{Asked, IsAllowed};
 
-    /// How the address stands among these leases of a name.
-    pub fn find(leases: &[Lease], addr: u32) -> Standing
-        ensures { StandsIn addr leases.now result }
+    /// How the address stands among those of these leases of a name that live at `now`.
+    pub fn find(leases: &[Lease], addr: u32, now: u64) -> Standing
+        ensures { StandsIn addr (filter (is_live now) leases.now) result }
     {
         let mut standing = Standing {
             own: false,
@@ -35,7 +35,9 @@ impl Standing {
             group: true,
         };
         for (index, lease) in leases.iter().enumerate() {
-            standing.add(*lease, addr);
+            if now < lease.end {
+                standing.add(*lease, addr);
+            }
         }
         standing
     }

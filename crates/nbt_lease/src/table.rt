@@ -8,7 +8,7 @@ ghost use Rattle.nbt_lease.specs.Lease.{TableValue, is_live, leases_at, HasNone}
 ghost use Rattle.nbt_lease.specs.Config.{granted};
 ghost use Rattle.nbt_lease.specs.Rules.{Asked, begun, Releases};
 ghost use Rattle.nbt_lease.specs.Inner.Placing.{HoldsLive, MayBegin, Places};
-ghost use Rattle.nbt_lease.specs.Inner.Index.{members_of, rows_of, AreLive};
+ghost use Rattle.nbt_lease.specs.Inner.Index.{members_of, rows_of, living, AreLive};
 
 use crate::config::Config;
 use crate::fault::{GrantFault, RestoreFault};
@@ -23,6 +23,9 @@ use nbt_name::{Kind, Name};
 use std::alloc::{AllocError, Global};
 use std::marker::{Brand, Model};
 use std::sync::ledger::{Blank, Ledger};
+
+/// The most expired leases that a call removes in their order.
+const SWEEP_MOST: u32 = 64;
 
 /// The leases of a name server: of each name those that live, in order of their beginnings. No two live leases are of
 /// one name and one address, and the live leases of a name are at most 1,000, all of a group, or one that is unique.
@@ -126,8 +129,9 @@ impl Table {
     /// - `TableFull` (2): a lease would begin, and the table is full of live leases.
     /// - `OutOfMemory` (4): out of memory; only where the live leases would change.
     ///
-    /// After a refusal the live leases are as before. Each call removes expired leases of all names before it takes
-    /// memory. `now` is at least `last()`, and is `last()` afterwards.
+    /// After a refusal the live leases are as before. Each call removes expired leases before it takes memory: at most 64 of
+    /// all names, those that expired first, and the address's own of this name. What has expired and still stands counts
+    /// for nothing. `now` is at least `last()`, and is `last()` afterwards.
     pub fn grant(
         &mut self,
         now: Moment,
@@ -155,13 +159,14 @@ impl Table {
             kind,
             end: ms + 1000 * u64::from(seconds),
         };
-        drop_expired::<Brand>(&mut self.index, ms, Blank::new(1));
-        renew_or_begin(&mut self.index, self.config.rows(), name, lease, seconds)
+        drop_some::<Brand>(&mut self.index, ms, SWEEP_MOST, Blank::new(1));
+        renew_or_begin(&mut self.index, self.config.rows(), ms, name, lease, seconds)
     }
 
     /// Removes the address's live lease of the name, of either kind: `Gone`. If it has none, `NoLease` if the name has no
-    /// live lease, else `OfOthers`; the live leases are then as before. Takes no memory. `now` is at least `last()`, and is
-    /// `last()` afterwards.
+    /// live lease, else `OfOthers`; the live leases are then as before. Each call removes expired leases: at most 64 of all
+    /// names, those that expired first, and the address's own of this name. Takes no memory. `now` is at least `last()`, and
+    /// is `last()` afterwards.
     pub fn release(&mut self, now: Moment, name: &Name, addr: u32) -> Released
         requires { self.old.last ≤ now }
         ensures rule { Releases self.old now name.now addr result (leases_at now self.new.rows) }
@@ -171,8 +176,9 @@ impl Table {
         ensures sound { IsSound self.new.config now (leases_at now self.new.rows) }
     {
         self.last = now;
-        drop_expired::<Brand>(&mut self.index, now.get(), Blank::new(1));
-        end_lease(&mut self.index, name, addr)
+        let ms = now.get();
+        drop_some::<Brand>(&mut self.index, ms, SWEEP_MOST, Blank::new(1));
+        end_lease(&mut self.index, ms, name, addr)
     }
 
     /// The live leases of the name at `now`, in order of their beginnings: at most 1,000. Borrows them and takes no memory.
@@ -251,7 +257,7 @@ impl Table {
         ensures sound { IsSound self.new.config now (leases_at now self.new.rows) }
     {
         self.last = now;
-        drop_some::<Brand>(&mut self.index, now.get(), 64, Blank::new(1));
+        drop_some::<Brand>(&mut self.index, now.get(), SWEEP_MOST, Blank::new(1));
     }
 
     /// Sweeps without counting the looks.
@@ -271,19 +277,6 @@ impl Table {
     }
 }
 
-/// Removes the leases that are over, without counting the looks.
-fn drop_expired<L: Ledger>(index: &mut Index, now: u64, blank: Blank)
-    requires name { blank.name ≡ L.name }
-    requires parts { blank.parts ≡ L.parts }
-    requires part_count { 0 < blank.parts }
-    ensures leases { (q : NameValue) → members_of index.new q ≡ filter (is_live now) (members_of index.old q) }
-    ensures fewer { length (rows_of index.new) ≤ length (rows_of index.old) }
-    ensures names { IsDistinct same_name (keys_of index.new) }
-{
-    let mut looks = Looks::<L>::new(blank);
-    index.drop_expired(now, &mut looks);
-}
-
 /// Removes so many leases that are over, at the most, without counting the looks.
 fn drop_some<L: Ledger>(index: &mut Index, now: u64, most: u32, blank: Blank)
     requires name { blank.name ≡ L.name }
@@ -300,21 +293,25 @@ fn drop_some<L: Ledger>(index: &mut Index, now: u64, most: u32, blank: Blank)
     index.drop_some(now, most, &mut looks);
 }
 
-/// Renews the address's lease, or begins one, for this many seconds. All leases live.
+/// Renews the address's live lease, or begins one, for this many seconds. Its lease that is over goes first, since it would be
+/// renewed; others that are over may stand.
 fn renew_or_begin(
     index: &mut Index,
     most: usize,
+    now: u64,
     name: &Name,
     lease: Lease,
     seconds: u32,
 ) -> Result<Grant, GrantFault>
     requires names { IsDistinct same_name (keys_of index.old) }
     requires fits { length (rows_of index.old) ≤ most }
-    ensures rule { (table : TableValue) (now : ℕ) (a : Asked) → HoldsLive table now index.old → table.config.rows ≡ most → lease ≡ begun table.config now a → seconds ≡ granted table.config.longest a.ttl → Places table now name.now a result (members_of index.new) }
+    requires onward { now < lease.end }
+    ensures rule { (table : TableValue) (a : Asked) → HoldsLive table now index.old → table.config.rows ≡ most → lease ≡ begun table.config now a → seconds ≡ granted table.config.longest a.ttl → Places table now name.now a result (living now index.new) }
     ensures fits { length (rows_of index.new) ≤ most }
     ensures names { IsDistinct same_name (keys_of index.new) }
 {
-    let standing = Standing::find(index.members(name), lease.addr);
+    index.end_over(name, lease.addr, now);
+    let standing = Standing::find(index.members(name), lease.addr, now);
     if !standing.allows(lease.kind) {
         return Err(GrantFault::Active);
     }
@@ -331,13 +328,14 @@ fn renew_or_begin(
     if standing.is_full() {
         return Err(GrantFault::GroupFull);
     }
-    begin(index, most, name, lease, seconds)
+    begin(index, most, now, name, lease, seconds)
 }
 
-/// Begins a lease, which goes last, for this many seconds. All leases live.
+/// Begins a lease, which goes last, for this many seconds. Leases that are over may stand, but only where there is room.
 fn begin(
     index: &mut Index,
     most: usize,
+    now: u64,
     name: &Name,
     lease: Lease,
     seconds: u32,
@@ -345,8 +343,9 @@ fn begin(
     requires none { HasNone lease.addr (members_of index.old name.now) }
     requires names { IsDistinct same_name (keys_of index.old) }
     requires fits { length (rows_of index.old) ≤ most }
-    ensures rule { (table : TableValue) (now : ℕ) (a : Asked) → HoldsLive table now index.old → table.config.rows ≡ most → lease ≡ begun table.config now a → seconds ≡ granted table.config.longest a.ttl
-        → MayBegin a (leases_at now table.rows name.now) → Places table now name.now a result (members_of index.new) }
+    requires onward { now < lease.end }
+    ensures rule { (table : TableValue) (a : Asked) → HoldsLive table now index.old → table.config.rows ≡ most → lease ≡ begun table.config now a → seconds ≡ granted table.config.longest a.ttl
+        → MayBegin a (leases_at now table.rows name.now) → Places table now name.now a result (living now index.new) }
     ensures fits { length (rows_of index.new) ≤ most }
     ensures names { IsDistinct same_name (keys_of index.new) }
 {
@@ -363,16 +362,18 @@ fn begin(
     })
 }
 
-/// Ends the address's lease of the name. All leases live.
-fn end_lease(index: &mut Index, name: &Name, addr: u32) -> Released
-    ensures rule { (table : TableValue) (now : ℕ) → HoldsLive table now index.old → Releases table now name.now addr result (members_of index.new) }
+/// Ends the address's live lease of the name. Its lease that is over goes first; others that are over may stand.
+fn end_lease(index: &mut Index, now: u64, name: &Name, addr: u32) -> Released
+    requires names { IsDistinct same_name (keys_of index.old) }
+    ensures rule { (table : TableValue) → HoldsLive table now index.old → Releases table now name.now addr result (living now index.new) }
     ensures count { length (rows_of index.new) ≤ length (rows_of index.old) }
     ensures names { IsDistinct same_name (keys_of index.new) }
 {
+    index.end_over(name, addr, now);
     if index.end(name, addr) {
         return Released::Gone;
     }
-    if index.members(name).is_empty() {
+    if index.live(name, now).next().is_none() {
         return Released::NoLease;
     }
     Released::OfOthers

@@ -1,5 +1,5 @@
 -- The leases of each name, and the set of their expiries (private types alone).
-use Rattle.std.specs.Prelude.{◌≡◌, ◌≢◌, ℕ, ◌<◌, max, Bool, ◌&&◌, nat_eq, List, [], ◌∷◌, ◌++◌, map, Option, Some, None, if◌then◌else◌, unwrap_or}
+use Rattle.std.specs.Prelude.{◌≡◌, ◌≢◌, ℕ, ◌<◌, max, Bool, ◌&&◌, nat_eq, nat_le, List, [], ◌∷◌, ◌++◌, map, filter, Option, Some, None, if◌then◌else◌, unwrap_or}
 use Rattle.std.specs.List.{list_any, IsDistinct, AllByRecursion}
 use Rattle.std.specs.Map.{lookup, keys_of}
 use Rattle.nbt_name.specs.Wire.{NameValue, same_name}
@@ -14,6 +14,10 @@ Entries = List (NameValue × List Lease)
 -- the members of a name; none where the name isn't there
 abbrev pub members_of : Entries → Leases
 members_of entries name = unwrap_or (lookup (same_name name) entries) []
+
+-- those of them that live at a time: others may stand among them, and count for nothing
+abbrev pub living : ℕ → Entries → Leases
+living moment entries name = filter (is_live moment) (members_of entries name)
 
 -- the same as rows
 abbrev pub rows_of : Entries → Rows
@@ -33,6 +37,10 @@ in_set ends d = list_any (λ e. is_due e d) ends
 -- whether a member of this address expires then
 abbrev pub has_end : ℕ → ℕ → List Lease → Bool
 has_end end addr leases = list_any (λ lease. nat_eq lease.addr addr && nat_eq lease.end end) leases
+
+-- whether a member of this address is over at a time
+abbrev pub has_over : ℕ → ℕ → List Lease → Bool
+has_over addr moment leases = list_any (λ lease. nat_eq lease.addr addr && nat_le lease.end moment) leases
 
 -- The set of expiries agrees with the map: it holds the expiry, name and address of each member, and nothing else.
 pub record Agrees (entries : Entries) (ends : List Due) : Type 0 where
@@ -68,26 +76,26 @@ pub record TakenFrom (old new : Entries) (name : NameValue) (addr : ℕ) (lease 
   pub left : (q : NameValue) → lookup (same_name q) new ≡ (if same_name name q then if_any (before ++ behind) else lookup (same_name q) old)
 
 -- The member of an address expires later, if this expiry is later than its own.
-pub record Renewed (old : Entries) (name : NameValue) (addr end until : ℕ) (after : Leases) : Type 0 where
+pub record Renewed (old : Leases) (name : NameValue) (addr end until : ℕ) (after : Leases) : Type 0 where
   pub before : List Lease
   pub lease : Lease
   pub behind : List Lease
-  pub member : IsMember addr (members_of old name) before lease behind
+  pub member : IsMember addr (old name) before lease behind
   pub until_is : until ≡ max lease.end end
-  pub after_is : after ≡ at_name name (before ++ record lease { end = until } ∷ behind) (members_of old)
+  pub after_is : after ≡ at_name name (before ++ record lease { end = until } ∷ behind) old
 
 -- The expiry of the member of an address would move.
-pub record Moves (old : Entries) (name : NameValue) (addr end : ℕ) : Type 0 where
+pub record Moves (old : Leases) (name : NameValue) (addr end : ℕ) : Type 0 where
   pub before : List Lease
   pub lease : Lease
   pub behind : List Lease
-  pub member : IsMember addr (members_of old name) before lease behind
+  pub member : IsMember addr (old name) before lease behind
   pub later : lease.end < end
 
 -- The member of an address is gone.
-pub record Ended (old : Entries) (name : NameValue) (addr : ℕ) (after : Leases) : Type 0 where
+pub record Ended (old : Leases) (name : NameValue) (addr : ℕ) (after : Leases) : Type 0 where
   pub before : List Lease
   pub lease : Lease
   pub behind : List Lease
-  pub member : IsMember addr (members_of old name) before lease behind
-  pub after_is : after ≡ at_name name (before ++ behind) (members_of old)
+  pub member : IsMember addr (old name) before lease behind
+  pub after_is : after ≡ at_name name (before ++ behind) old

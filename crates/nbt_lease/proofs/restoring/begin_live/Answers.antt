@@ -1,9 +1,9 @@
 use Rattle.std.proofs.lemmas.Result.{err_from_is_err_and}
 use Rattle.nbt_lease.specs.declared.fault.RestoreFault.TheVariants.{Unsound}
 use Rattle.std.proofs.Common.{Err, ◌≡◌, ◌+◌, ◌++◌, ◌∷◌, [], take, sym, ap, ◌∙◌, subst, arith}
-use Rattle.nbt_lease.proofs.Common.{take_all, Entries, Rows, Leases, leases_at, AreSound, members_of}
+use Rattle.nbt_lease.proofs.Common.{take_all, Entries, Rows, Leases, leases_at, AreSound, members_of, AreLive}
 use Rattle.nbt_lease.proofs.Rows.{same_leases, none_live}
-use Rattle.nbt_lease.proofs.Restored.{none_sound_at, no_names, rows_next, sound_next, sound_so_far}
+use Rattle.nbt_lease.proofs.Restored.{none_sound_at, no_names, all_live_at, rows_next, sound_next, sound_so_far}
 use Rattle.nbt_lease.proofs.restoring.begin_live.Goals as goal
 
 pub loop-place-init : goal.loop-place-init
@@ -16,6 +16,10 @@ loop-place-init c = (
 pub begin_one-requires-clause-sound : goal.begin_one-requires-clause-sound
 begin_one-requires-clause-sound c =
     subst (λ (f : Leases). AreSound c.args.latest (f c.index-rows-place.result.0)) (sym c.loop-place.invariant.1) (c.loop-place.invariant.2 c.index-rows-place.result.0)
+
+pub begin_one-requires-clause-live : goal.begin_one-requires-clause-live
+begin_one-requires-clause-live c =
+    subst (λ (f : Leases). AreLive c.args.now (f c.index-rows-place.result.0)) (sym c.loop-place.invariant.1) (all_live_at c.args.now (take c.loop-place.place c.args.rows.now) c.index-rows-place.result.0)
 
 pub returns-in_err-begin_one-clause-unsound : goal.returns-in_err-begin_one-clause-unsound
 returns-in_err-begin_one-clause-unsound c is sound =

@@ -1,7 +1,7 @@
 use Rattle.std.proofs.Common.{◌∷◌, ◌++◌, [], List, refl, sym, ap, ◌∙◌, subst, arith}
-use Rattle.nbt_lease.proofs.Common.{both_ways, Lease, Leases, HasNone, leases_at, AreSound, at_name, StandsIn}
+use Rattle.nbt_lease.proofs.Common.{both_ways, Lease, Leases, leases_at, AreSound, at_name, members_of, StandsIn}
 use Rattle.nbt_lease.proofs.Counts.{last_at}
-use Rattle.nbt_lease.proofs.Restored.{ok_is, over_more, row_more, stands_last, may_stand, timely_last}
+use Rattle.nbt_lease.proofs.Restored.{ok_is, over_more, row_more, stands_last, stands_so, may_stand, timely_last}
 use Rattle.nbt_lease.proofs.restoring.begin_one.Goals as goal
 use Rattle.nbt_lease.proofs.restoring.begin_one.Goals.{then-latest-lease-via-then-latest-lease, then-latest-lease-via-else-latest-lease+then-not-admits}
 
@@ -16,7 +16,8 @@ pub returns-then-latest-lease-clause-unsound : goal.returns-then-latest-lease-cl
 returns-then-latest-lease-clause-unsound c e rows is sound =
     let leases : List Lease = leases_at c.args.now rows c.args.name.now in
     let whole : AreSound c.args.latest (leases ++ c.args.lease ∷ []) = subst (AreSound c.args.latest) (row_more c.args.now rows c.args.name.now c.args.lease c.if-lease-now.false) sound in
-    let found : StandsIn c.args.lease.addr leases c.find-standing.result = subst (λ (ls : List Lease). StandsIn c.args.lease.addr ls c.find-standing.result) (c.members.ensures ∙ ap (λ (f : Leases). f c.args.name.now) is) c.find-standing.ensures in
+    let here = stands_so c.args.now c.args.lease.addr c.members.result.now (members_of c.args.index.now c.args.name.now) c.find-standing.result c.members.ensures c.requires.live c.find-standing.ensures in
+    let found : StandsIn c.args.lease.addr leases c.find-standing.result = subst (λ (f : Leases). StandsIn c.args.lease.addr (f c.args.name.now) c.find-standing.result) is here in
     elim c.then-latest-lease.branch [
       | then-latest-lease-via-then-latest-lease w ↦ omega (arith, w.if-latest-lease.true, timely_last c.args.latest leases c.args.lease whole)
       | then-latest-lease-via-else-latest-lease+then-not-admits w ↦ both_ways w.admits.result w.if-not-admits.true ((w.admits.ensures leases c.args.lease found refl).1 (may_stand c.args.latest leases c.args.lease whole))
@@ -30,12 +31,13 @@ returns-clause-leases c rows is =
 pub returns-clause-sound : goal.returns-clause-sound
 returns-clause-sound c rows is =
     let leases : List Lease = leases_at c.args.now rows c.args.name.now in
-    let found : StandsIn c.args.lease.addr leases c.find-standing.result = subst (λ (ls : List Lease). StandsIn c.args.lease.addr ls c.find-standing.result) (c.members.ensures ∙ ap (λ (f : Leases). f c.args.name.now) is) c.find-standing.ensures in
+    let here = stands_so c.args.now c.args.lease.addr c.members.result.now (members_of c.args.index.now c.args.name.now) c.find-standing.result c.members.ensures c.requires.live c.find-standing.ensures in
+    let found : StandsIn c.args.lease.addr leases c.find-standing.result = subst (λ (f : Leases). StandsIn c.args.lease.addr (f c.args.name.now) c.find-standing.result) is here in
     let before : AreSound c.args.latest leases = subst (λ (f : Leases). AreSound c.args.latest (f c.args.name.now)) is c.requires.sound in
     subst (AreSound c.args.latest) (sym (row_more c.args.now rows c.args.name.now c.args.lease c.if-lease-now.false))
     (stands_last c.args.latest leases c.args.lease before c.if-latest-lease.false ((c.admits.ensures leases c.args.lease found refl).0 c.if-not-admits.false))
 
 pub begin-requires : goal.begin-requires
-begin-requires c = record {
-  none = subst (HasNone c.args.lease.addr) c.members.ensures ((c.admits.ensures c.members.result.now c.args.lease c.find-standing.ensures refl).0 c.if-not-admits.false).none;
-}
+begin-requires c =
+    let here = stands_so c.args.now c.args.lease.addr c.members.result.now (members_of c.args.index.now c.args.name.now) c.find-standing.result c.members.ensures c.requires.live c.find-standing.ensures in
+    record { none = ((c.admits.ensures (members_of c.args.index.now c.args.name.now) c.args.lease here refl).0 c.if-not-admits.false).none }

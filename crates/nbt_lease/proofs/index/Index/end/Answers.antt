@@ -1,11 +1,16 @@
-use Rattle.std.proofs.Common.{◌++◌, ℕ, false, cond, length, refl, sym, ap, subst, ◌∙◌, arith}
-use Rattle.nbt_lease.proofs.Common.{at_name, Entries, members_of, rows_of, due, is_due, in_set, if_any, IsMember}
+use Rattle.std.proofs.Common.{◌++◌, ◌∷◌, [], ℕ, List, Option, false, cond, unwrap_or, length, refl, sym, ap, subst, ◌∙◌, arith}
+use Rattle.nbt_lease.proofs.Common.{Lease, Leases, at_name, HasNone, AreApart, Entries, members_of, rows_of, due, is_due, in_set, if_any, IsMember}
 use Rattle.nbt_lease.proofs.Agreeing.{goes_taken, stays, members_at, if_any_is}
+use Rattle.nbt_lease.proofs.Ending.{none_beside}
 use Rattle.nbt_lease.proofs.Flat.{counted}
+use Rattle.nbt_lease.proofs.Others.{here}
 use Rattle.nbt_lease.proofs.index.Index.end.Goals as goal
 
 pub invariant_of-self : goal.invariant_of-self
 invariant_of-self c = stays c.self.inside.members.entries c.take_out.new.members.entries c.self.inside.ends c.self.inside.ends c.self.invariant c.take_out.ensures.names c.self.invariant.once c.in_default.ensures.left (λ d. refl)
+
+pub returns-in_default-clause-left : goal.returns-in_default-clause-left
+returns-in_default-clause-left c = subst (λ (o : Option (List Lease)). HasNone c.args.addr (unwrap_or o [])) (sym (c.in_default.ensures.left c.args.name.now)) c.in_default.ensures.none
 
 pub returns-in_default-clause-count : goal.returns-in_default-clause-count
 returns-in_default-clause-count c =
@@ -29,6 +34,13 @@ returns-clause-gone c _ =
           members_at c.self.inside.members.entries c.take_out.new.members.entries c.args.name.now (if_any (t.before ++ t.behind)) t.left
           ∙ (λ i. at_name c.args.name.now (if_any_is (t.before ++ t.behind) i) (members_of (c.self.view_is i)));
     }
+
+pub returns-clause-left : goal.returns-clause-left
+returns-clause-left c =
+    let e = returns-clause-gone c refl in
+    let apart : AreApart (e.before ++ e.lease ∷ e.behind) = subst AreApart c.in-Some.ensures.taken.member.is (c.self.invariant.apart c.args.name.now) in
+    subst (HasNone c.args.addr) (sym (ap (λ (f : Leases). f c.args.name.now) e.after_is ∙ here c.args.name.now (e.before ++ e.behind) (members_of c.args.self.now)))
+    (subst (λ (n : ℕ). HasNone n (e.before ++ e.behind)) e.member.owner_is (none_beside e.before e.behind e.lease apart))
 
 pub returns-clause-count : goal.returns-clause-count
 returns-clause-count c =

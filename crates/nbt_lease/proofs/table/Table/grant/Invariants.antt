@@ -1,4 +1,4 @@
 use Rattle.nbt_lease.proofs.table.Table.grant.Given as goal
 
-abbrev pub ghosts-drop_expired : goal.ghosts-drop_expired
-ghosts-drop_expired a = record { name = a.blank.name; parts = a.blank.parts }
+abbrev pub ghosts-drop_some : goal.ghosts-drop_some
+ghosts-drop_some a = record { name = a.blank.name; parts = a.blank.parts }
