@@ -10,8 +10,8 @@ returns-clause-rule c =
     let t = c.args.self.now in
     let new = c.end_lease.new.index in
     let rows_are = ap (λ (v : TableValue). v.rows) c.self.view_is in
-    let fits = omega (arith, c.self.invariant.2, ap (λ (v : TableValue). v.config.rows) c.self.view_is) in
-    let holds = holds_live t c.get-ms.result c.self.inside.index c.drop_some.new.index c.self.invariant.0 c.drop_some.ensures.names rows_are fits c.drop_some.ensures.leases c.drop_some.ensures.over in
+    let limit = ap (λ (v : TableValue). v.config.rows) c.self.view_is in
+    let holds = holds_live t c.get-ms.result c.self.inside.index c.drop_some.new.index c.self.invariant.0 c.drop_some.ensures.names rows_are (omega (arith, c.self.invariant.2, limit)) c.drop_some.ensures.leases c.drop_some.ensures.over in
     subst (λ (f : Leases). Releases t c.args.now c.args.name.now c.args.addr c.end_lease.result f) (sym (living_rows c.args.now new c.end_lease.ensures.names))
     (subst (λ (m : ℕ). Releases t m c.args.name.now c.args.addr c.end_lease.result (living m new)) c.get-ms.ensures.value (c.end_lease.ensures.rule t holds))
 
