@@ -39,7 +39,7 @@ own_over addr m before behind lease over none =
     leb-true lease.end m (and_parts (lease.addr == addr) (leb lease.end m) so).1
 
 -- it goes: what lives is as before
-record WithoutOver (addr m : ℕ) (name : NameValue) (es fs : Entries) : Type 0 where
+pub record WithoutOver (addr m : ℕ) (name : NameValue) (es fs : Entries) : Type 0 where
   pub same : living m fs ≡ living m es
   pub none : has_over addr m (members_of fs name) ≡ false
 

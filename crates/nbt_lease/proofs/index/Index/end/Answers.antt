@@ -36,6 +36,7 @@ returns-clause-gone c _ =
     }
 
 pub returns-clause-left : goal.returns-clause-left
+unfolding returns-clause-gone
 returns-clause-left c =
     let e = returns-clause-gone c refl in
     let apart : AreApart (e.before ++ e.lease ∷ e.behind) = subst AreApart c.in-Some.ensures.taken.member.is (c.self.invariant.apart c.args.name.now) in
