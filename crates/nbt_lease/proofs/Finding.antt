@@ -54,17 +54,17 @@ pub added : (addr now i : ℕ) (leases : List Lease) (d : Lease) (old new : Stan
 added addr now i leases d old new within live adds so_far =
     let next : Lease = get_or leases i d in
     let more : filter (is_live now) (take (i + 1) leases) ≡ filter (is_live now) (take i leases) ++ next ∷ [] =
-        ap (filter (is_live now)) (take_more leases i d within)
-        ∙ (filter-append (is_live now) (take i leases) (next ∷ []) ∙ ap (λ (ls : List Lease). filter (is_live now) (take i leases) ++ ls) (live_front now next [] (lt-ltb now next.end live))) in
+    ap (filter (is_live now)) (take_more leases i d within)
+    ∙ (filter-append (is_live now) (take i leases) (next ∷ []) ∙ ap (λ (ls : List Lease). filter (is_live now) (take i leases) ++ ls) (live_front now next [] (lt-ltb now next.end live))) in
     subst (λ (ls : List Lease). StandsIn addr ls new) (sym more) (one_more_stands addr (filter (is_live now) (take i leases)) next old new adds so_far)
 
 pub passed_by : (addr now i : ℕ) (leases : List Lease) (d : Lease) (standing : Standing) → i < length leases → (get_or leases i d).end ≤ now → StandsIn addr (filter (is_live now) (take i leases)) standing → StandsIn addr (filter (is_live now) (take (i + 1) leases)) standing
 passed_by addr now i leases d standing within over so_far =
     let next : Lease = get_or leases i d in
     let same : filter (is_live now) (take (i + 1) leases) ≡ filter (is_live now) (take i leases) =
-        ap (filter (is_live now)) (take_more leases i d within)
-        ∙ (filter-append (is_live now) (take i leases) (next ∷ [])
-        ∙ (ap (λ (ls : List Lease). filter (is_live now) (take i leases) ++ ls) (over_front now next [] (le-ltb now next.end over)) ∙ append-nil (filter (is_live now) (take i leases)))) in
+    ap (filter (is_live now)) (take_more leases i d within)
+    ∙ (filter-append (is_live now) (take i leases) (next ∷ [])
+    ∙ (ap (λ (ls : List Lease). filter (is_live now) (take i leases) ++ ls) (over_front now next [] (le-ltb now next.end over)) ∙ append-nil (filter (is_live now) (take i leases)))) in
     subst (λ (ls : List Lease). StandsIn addr ls standing) (sym same) so_far
 
 -- ---- what was found

@@ -1,6 +1,6 @@
 -- What lives among the members, where others that are over may stand, and what a change of one member makes of it.
-use Rattle.std.proofs.Common.{◌≡◌, ◌==◌, ℕ, ◌<◌, ◌≤◌, leb, Bool, true, false, ◌&&◌, ◌||◌, cond, IsTrue, List, [], ◌∷◌, ◌++◌, refl, sym, ap, ◌∙◌, subst, ⊎_elim, arith}
-use Rattle.nbt_lease.proofs.Common.{OnFalse, filter, IsDistinct, keys_of, filter-append, list_any-append, and_cases, and_parts, both_ways, cases_Bool, eq-eqb, ne_eqb, leb-true, leb-false, lt-ltb, or_parts, NameValue, same_name, Lease, Leases, is_live, leases_at, at_name, HasNone, Entries, members_of, rows_of, living, has_over, IsMember, Renewed, Moves, Ended}
+use Rattle.std.proofs.Common.{◌≡◌, ◌==◌, ℕ, ◌<◌, ◌≤◌, leb, Bool, true, false, ◌&&◌, ◌||◌, cond, IsTrue, List, [], ◌∷◌, ◌++◌, refl, sym, ap, ◌∙◌, ⊎_elim, arith}
+use Rattle.nbt_lease.proofs.Common.{OnFalse, filter, IsDistinct, keys_of, filter-append, list_any-append, and_cases, and_parts, both_ways, eq-eqb, ne_eqb, leb-true, leb-false, lt-ltb, or_parts, NameValue, same_name, Lease, Leases, is_live, leases_at, at_name, HasNone, Entries, members_of, rows_of, living, has_over, IsMember, Renewed, Moves, Ended}
 use Rattle.nbt_lease.proofs.Rows.{same_leases}
 use Rattle.nbt_lease.proofs.Others.{here}
 use Rattle.nbt_lease.proofs.Flat.{leases_are, live_front, live_stays}

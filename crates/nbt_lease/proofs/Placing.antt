@@ -1,6 +1,6 @@
 -- The exits of a grant and a release.
 use Rattle.std.proofs.Common.{◌≡◌, ◌≢◌, ℕ, ◌<◌, ◌≤◌, ◌+◌, List, [], ◌∷◌, ◌++◌, length, max, Bool, true, false, Option, Some, None, is_some, MatchOption, Result, Ok, Err, OnErr, refl, sym, ap, ◌∙◌, subst, ⊎_elim, arith}
-use Rattle.nbt_lease.proofs.Common.{filter, IsDistinct, keys_of, OnFalse, IfNone, both_ways, cases_lt, false≢true, length-append, NameValue, same_name, Lease, Grant, Released, Gone, GrantFault, OutOfMemory, Leases, Rows, TableValue, is_live, leases_at, live_count, members_most, at_name, HasNone, IsSound, Asked, IsAllowed, end_of, grant_until, begun, renewed, GrantCase, renews, begins, ReleaseCase, gone, Releases, ConfigValue, Entries, members_of, living, rows_of, AreLive, Renewed, Moves, Ended, Standing, StandsIn, HoldsLive, Places}
+use Rattle.nbt_lease.proofs.Common.{filter, IsDistinct, keys_of, OnFalse, IfNone, both_ways, cases_lt, false≢true, length-append, NameValue, same_name, Lease, Grant, Released, Gone, GrantFault, OutOfMemory, Leases, TableValue, is_live, leases_at, live_count, members_most, at_name, HasNone, IsSound, Asked, IsAllowed, end_of, grant_until, begun, renewed, GrantCase, renews, begins, ReleaseCase, gone, Releases, Entries, members_of, living, rows_of, AreLive, Renewed, Moves, Ended, Standing, StandsIn, HoldsLive, Places}
 use Rattle.nbt_lease.proofs.Counts.{same_count, live_at_most}
 use Rattle.nbt_lease.proofs.Sound.{all_filter, sound_granted}
 use Rattle.nbt_lease.proofs.Others.{here, some_there}

@@ -24,7 +24,7 @@ use std::alloc::{AllocError, Global};
 use std::marker::{Brand, Model};
 use std::sync::ledger::{Blank, Ledger};
 
-/// The most expired leases that a call removes in their order.
+/// The most expired leases that one call removes of all names, those that expired first.
 const SWEEP_MOST: u32 = 64;
 
 /// The leases of a name server: of each name those that live, in order of their beginnings. No two live leases are of
@@ -160,7 +160,14 @@ impl Table {
             end: ms + 1000 * u64::from(seconds),
         };
         drop_some::<Brand>(&mut self.index, ms, SWEEP_MOST, Blank::new(1));
-        renew_or_begin(&mut self.index, self.config.rows(), ms, name, lease, seconds)
+        renew_or_begin(
+            &mut self.index,
+            self.config.rows(),
+            ms,
+            name,
+            lease,
+            seconds,
+        )
     }
 
     /// Removes the address's live lease of the name, of either kind: `Gone`. If it has none, `NoLease` if the name has no
@@ -305,7 +312,7 @@ fn renew_or_begin(
 ) -> Result<Grant, GrantFault>
     requires names { IsDistinct same_name (keys_of index.old) }
     requires fits { length (rows_of index.old) ≤ most }
-    requires onward { now < lease.end }
+    requires lives { now < lease.end }
     ensures rule { (table : TableValue) (a : Asked) → HoldsLive table now index.old → table.config.rows ≡ most → lease ≡ begun table.config now a → seconds ≡ granted table.config.longest a.ttl → Places table now name.now a result (living now index.new) }
     ensures fits { length (rows_of index.new) ≤ most }
     ensures names { IsDistinct same_name (keys_of index.new) }
@@ -343,7 +350,7 @@ fn begin(
     requires none { HasNone lease.addr (members_of index.old name.now) }
     requires names { IsDistinct same_name (keys_of index.old) }
     requires fits { length (rows_of index.old) ≤ most }
-    requires onward { now < lease.end }
+    requires lives { now < lease.end }
     ensures rule { (table : TableValue) (a : Asked) → HoldsLive table now index.old → table.config.rows ≡ most → lease ≡ begun table.config now a → seconds ≡ granted table.config.longest a.ttl
         → MayBegin a (leases_at now table.rows name.now) → Places table now name.now a result (living now index.new) }
     ensures fits { length (rows_of index.new) ≤ most }

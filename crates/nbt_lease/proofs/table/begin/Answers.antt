@@ -19,5 +19,5 @@ returns-clause-rule c table a holds most_is lease_is seconds_is may =
     let vacant = room_beside table c.args.now c.args.index.now c.requires.names holds (omega (arith, c.count.ensures, c.if-count-most.false, most_is)) in
     subst (λ (g : Grant). Places table c.args.now c.args.name.now a (Ok g) (living c.args.now c.begin.new.self)) (λ i. record { seconds = sym seconds_is i; end = (sym lease_is i).end; renewed = false })
     (begins_lease table c.args.now c.args.name.now a (living c.args.now c.begin.new.self) may.allowed may.none may.room vacant
-    (begun_lives c.args.now c.args.name.now c.args.lease c.args.index.now c.begin.new.self c.requires.onward c.in_default.ensures.begun
+    (begun_lives c.args.now c.args.name.now c.args.lease c.args.index.now c.begin.new.self c.requires.lives c.in_default.ensures.begun
     ∙ (λ i. at_name c.args.name.now (holds.leases i c.args.name.now ++ lease_is i ∷ []) (holds.leases i))))

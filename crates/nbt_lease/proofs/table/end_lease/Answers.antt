@@ -1,5 +1,5 @@
-use Rattle.std.proofs.Common.{◌≡◌, [], not, refl, sym, ap, ◌∙◌, subst}
-use Rattle.nbt_lease.proofs.Common.{NoLease, OfOthers, Leases, leases_at, no_lease, of_others, living, Ended}
+use Rattle.std.proofs.Common.{not, refl, sym, ap, ◌∙◌, subst}
+use Rattle.nbt_lease.proofs.Common.{NoLease, OfOthers, Leases, no_lease, of_others, living, Ended}
 use Rattle.nbt_lease.proofs.Living.{same_living, ended_lives}
 use Rattle.nbt_lease.proofs.Placing.{holds_on, takes_back, releases_none, none_so, none_first, some_first, false_is}
 use Rattle.nbt_lease.proofs.table.end_lease.Goals as goal

@@ -53,5 +53,5 @@ invariant_of-self c = (c.renew_or_begin.ensures.names, returns-clause-sound c, o
 pub renew_or_begin-requires-clause-fits : goal.renew_or_begin-requires-clause-fits
 renew_or_begin-requires-clause-fits c = omega (arith, c.self.invariant.2, c.drop_some.ensures.fewer, c.rows.ensures.value)
 
-pub renew_or_begin-requires-clause-onward : goal.renew_or_begin-requires-clause-onward
-renew_or_begin-requires-clause-onward c = omega (arith, c.granted-seconds.ensures.bounds.0, c.from.ensures)
+pub renew_or_begin-requires-clause-lives : goal.renew_or_begin-requires-clause-lives
+renew_or_begin-requires-clause-lives c = omega (arith, c.granted-seconds.ensures.bounds.0, c.from.ensures)

@@ -1,4 +1,4 @@
-use Rattle.std.proofs.Common.{◌≡◌, ℕ, sym, ap, subst, ◌∙◌, arith}
+use Rattle.std.proofs.Common.{ℕ, sym, ap, subst, arith}
 use Rattle.nbt_lease.proofs.Common.{TableValue, Leases, leases_at, IsSound, Releases, living, rows_of}
 use Rattle.nbt_lease.proofs.Sound.{sound_later, sound_released}
 use Rattle.nbt_lease.proofs.Living.{living_rows}
