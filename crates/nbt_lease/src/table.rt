@@ -300,8 +300,8 @@ fn drop_some<L: Ledger>(index: &mut Index, now: u64, most: u32, blank: Blank)
     index.drop_some(now, most, &mut looks);
 }
 
-/// Renews the address's live lease, or begins one, for this many seconds. Its lease that is over goes first, since it would be
-/// renewed; others that are over may stand.
+/// Renews the address's live lease, or begins one, for this many seconds. Its lease that is over goes first, since it would
+/// be renewed; others that are over may stand.
 fn renew_or_begin(
     index: &mut Index,
     most: usize,
