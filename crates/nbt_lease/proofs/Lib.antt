@@ -14,5 +14,6 @@ pub mod Living
 pub mod Placing
 pub mod Least
 pub mod Restored
+pub mod Roomy
 pub mod Owned
 pub mod Tallying

@@ -1,6 +1,6 @@
 -- What lives among the members, where others that are over may stand, and what a change of one member makes of it.
 use Rattle.std.proofs.Common.{◌≡◌, ◌==◌, ℕ, ◌<◌, ◌≤◌, leb, Bool, true, false, ◌&&◌, ◌||◌, cond, IsTrue, List, [], ◌∷◌, ◌++◌, refl, sym, ap, ◌∙◌, ⊎_elim, arith}
-use Rattle.nbt_lease.proofs.Common.{OnFalse, filter, IsDistinct, keys_of, filter-append, list_any-append, and_cases, and_parts, both_ways, eq-eqb, ne_eqb, leb-true, leb-false, lt-ltb, or_parts, NameValue, same_name, Lease, Leases, is_live, leases_at, at_name, HasNone, Entries, members_of, rows_of, living, has_over, IsMember, Renewed, Moves, Ended}
+use Rattle.nbt_lease.proofs.Common.{OnFalse, filter, IsDistinct, cases_Bool, or_right, Due, Agrees, due, in_set, has_end, keys_of, filter-append, list_any-append, and_cases, and_parts, both_ways, eq-eqb, ne_eqb, leb-true, leb-false, lt-ltb, or_parts, NameValue, same_name, Lease, Leases, is_live, leases_at, at_name, HasNone, Entries, members_of, rows_of, living, has_over, IsMember, Renewed, Moves, Ended}
 use Rattle.nbt_lease.proofs.Rows.{same_leases}
 use Rattle.nbt_lease.proofs.Others.{here}
 use Rattle.nbt_lease.proofs.Flat.{leases_are, live_front, live_stays}
@@ -37,6 +37,22 @@ own_over : (addr m : ℕ) (before behind : List Lease) (lease : Lease) → has_o
 own_over addr m before behind lease over none =
     let so : over_so addr m lease ≡ true = only_bool (has_over addr m before) (has_over addr m behind) (over_so addr m lease) (sym (over-append addr m before behind) ∙ none) (sym (over-append addr m before (lease ∷ behind)) ∙ over) in
     leb-true lease.end m (and_parts (lease.addr == addr) (leb lease.end m) so).1
+
+-- none is over where no expiry is
+not_over : (addr m : ℕ) (leases : List Lease) → ((e : ℕ) → has_end e addr leases ≡ true → m < e) → has_over addr m leases ≡ false
+not_over addr m [] all = refl
+not_over addr m (x ∷ xs) all =
+    ⊎_elim
+    (λ own.
+    ⊎_elim
+    (λ over. absurd (omega (arith, leb-true x.end m over, all x.end (rw own (rw (eq-eqb x.end x.end refl) refl)))))
+    (λ live. rw own (rw live (not_over addr m xs (λ e there. all e (or_right ((x.addr == addr) && (x.end == e)) (has_end e addr xs) there)))))
+    (cases_Bool (leb x.end m)))
+    (λ other. rw other (not_over addr m xs (λ e there. all e (or_right ((x.addr == addr) && (x.end == e)) (has_end e addr xs) there))))
+    (cases_Bool (x.addr == addr))
+
+pub none_is_over : (addr m : ℕ) (name : NameValue) (es : Entries) (ds : List Due) → Agrees es ds → ((d : Due) → in_set ds d ≡ true → m < d.end) → has_over addr m (members_of es name) ≡ false
+none_is_over addr m name es ds h live = not_over addr m (members_of es name) (λ e there. live (due e name addr) (h.agree (due e name addr) ∙ there))
 
 -- it goes: what lives is as before
 pub record WithoutOver (addr m : ℕ) (name : NameValue) (es fs : Entries) : Type 0 where

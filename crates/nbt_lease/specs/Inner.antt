@@ -1,4 +1,5 @@
 -- What only the contracts of private functions cite: a caller needs none of it.
+pub mod Hashing
 pub mod Index
 pub mod Tally
 pub mod Standing

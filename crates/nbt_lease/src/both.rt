@@ -8,17 +8,17 @@ ghost use Rattle.nbt_lease.specs.declared.ends.Due.{Due};
 ghost use Rattle.nbt_lease.specs.Lease.{HasNone};
 ghost use Rattle.nbt_lease.specs.Inner.Index.{members_of, due, is_due, in_set, TakenFrom};
 
+use crate::by_name::ByName;
 use crate::ends::Ends;
 use crate::lease::Lease;
 use crate::named::Named;
-use indexmap::IndexMap;
 use nbt_name::Name;
 use std::alloc::{AllocError, Global};
 
 /// Begins a lease, which goes last at its name. Memory is taken by the members' vector, then by the set for the new expiry,
 /// then by the map for a new name. If out of memory, the members and the expiries are as before.
 pub(crate) fn begin_in(
-    members: &mut IndexMap<Name, Named>,
+    members: &mut ByName,
     ends: &mut Ends,
     alloc: Global,
     name: &Name,
@@ -48,7 +48,7 @@ pub(crate) fn begin_in(
 
 /// Begins the first lease of a name.
 fn begin_first(
-    members: &mut IndexMap<Name, Named>,
+    members: &mut ByName,
     ends: &mut Ends,
     alloc: Global,
     name: &Name,
@@ -78,7 +78,7 @@ fn begin_first(
 }
 
 /// Removes the member of this address from its name, and the name from the map with its last member. Takes no memory.
-pub(crate) fn take_out(members: &mut IndexMap<Name, Named>, name: &Name, addr: u32) -> Option<Lease>
+pub(crate) fn take_out(members: &mut ByName, name: &Name, addr: u32) -> Option<Lease>
     requires names { IsDistinct same_name (keys_of members.old.entries) }
     ensures taken { IfSome result (λ lease. TakenFrom members.old.entries members.new.entries name.now addr lease) }
     ensures none { IfNone result (HasNone addr (members_of members.old.entries name.now)) }

@@ -53,20 +53,7 @@ impl Config {
         ensures longest { IsErrOf result ConfigFault.Longest ↔ (IsLife life × (¬ IsLongest longest)) }
         ensures rows { IsErrOf result ConfigFault.Rows ↔ (IsLife life × IsLongest longest × (¬ IsRows rows)) }
     {
-        if life == 0 || life > LIFE_MOST {
-            return Err(ConfigFault::Life);
-        }
-        if longest == 0 || longest > LONGEST_MOST {
-            return Err(ConfigFault::Longest);
-        }
-        if rows == 0 || rows > ROWS_MOST {
-            return Err(ConfigFault::Rows);
-        }
-        Ok(Config {
-            life,
-            longest,
-            rows,
-        })
+        Config::up_to(ROWS_MOST, life, longest, rows)
     }
 
     /// The limits of a server of more leases: as `new`, but `rows` is 1 to 1,048,576. Our profile.
@@ -79,13 +66,25 @@ impl Config {
         ensures longest { IsErrOf result ConfigFault.Longest ↔ (IsLife life × (¬ IsLongest longest)) }
         ensures rows { IsErrOf result ConfigFault.Rows ↔ (IsLife life × IsLongest longest × (¬ IsLargeRows rows)) }
     {
+        Config::up_to(LARGE_ROWS_MOST, life, longest, rows)
+    }
+
+    /// The same, where `rows` is 1 to `most`.
+    fn up_to(most: usize, life: u64, longest: u32, rows: usize) -> Result<Config, ConfigFault>
+        requires { most ≤ LARGE_ROWS_MOST }
+        ensures found { IsOk result ↔ (IsLife life × IsLongest longest × (1 ≤ rows) × (rows ≤ most)) }
+        ensures value { IfOk result (λ config. config ≡ config_of life longest rows) }
+        ensures life { IsErrOf result ConfigFault.Life ↔ (¬ IsLife life) }
+        ensures longest { IsErrOf result ConfigFault.Longest ↔ (IsLife life × (¬ IsLongest longest)) }
+        ensures rows { IsErrOf result ConfigFault.Rows ↔ (IsLife life × IsLongest longest × (¬ ((1 ≤ rows) × (rows ≤ most)))) }
+    {
         if life == 0 || life > LIFE_MOST {
             return Err(ConfigFault::Life);
         }
         if longest == 0 || longest > LONGEST_MOST {
             return Err(ConfigFault::Longest);
         }
-        if rows == 0 || rows > LARGE_ROWS_MOST {
+        if rows == 0 || rows > most {
             return Err(ConfigFault::Rows);
         }
         Ok(Config {

@@ -14,7 +14,7 @@ pub enum ConfigFault {
     /// 2: the longest lease isn't 1 to 1,000,000 seconds.
     #[error("Longest")]
     Longest,
-    /// 3: the live leases of a server aren't 1 to 4,096.
+    /// 3: the live leases of a server aren't 1 to 4,096, or of a large one 1 to 1,048,576.
     #[error("Rows")]
     Rows,
 }

@@ -10,6 +10,7 @@ ghost use Rattle.nbt_lease.specs.declared.ends.Due.{Due};
 ghost use Rattle.nbt_lease.specs.Inner.Index.{rows_of, in_set, has_over};
 
 use crate::both::{begin_in, take_out};
+use crate::by_name::{ByName, Hashing};
 use crate::ends::Ends;
 use crate::lease::Lease;
 use crate::looks::Looks;
@@ -18,14 +19,16 @@ use crate::named::Named;
 use indexmap::IndexMap;
 use nbt_name::Name;
 use std::alloc::{AllocError, Global};
+use std::hash::RandomState;
 use std::marker::{Brand, Model};
+use std::mem::swap;
 use std::sync::ledger::{Blank, Ledger};
 
 /// The leases by name, and their expiries in order. Each name has a member at least; its members are of different
 /// addresses; and the set holds the expiry, name and address of each member, and no other.
 #[derive(Drop)]
 pub(crate) struct Index {
-    members: IndexMap<Name, Named>,
+    members: ByName,
     ends: Ends,
     alloc: Global,
 }
@@ -50,10 +53,25 @@ impl Index {
         ensures { result ≡ [] }
     {
         Index {
-            members: IndexMap::new(alloc),
+            members: IndexMap::with_hasher(alloc, Hashing::Fixed),
             ends: Ends::new(alloc),
             alloc,
         }
+    }
+
+    /// Takes room for so many names, none of which moves as long as there are no more, and hashes names by these keys from
+    /// now on. If out of memory, all is as before.
+    pub fn make_room(&mut self, names: usize, keys: RandomState) -> Result<(), AllocError>
+        ensures { self.new ≡ self.old }
+    {
+        let mut roomy = IndexMap::with_capacity_and_hasher(
+            self.alloc,
+            names,
+            Hashing::Keyed(keys),
+        )?;
+        roomy.append(&mut self.members)?;
+        swap(&mut self.members, &mut roomy);
+        Ok(())
     }
 
     /// The members of a name, in order of their beginnings. One look-up; takes no memory.
@@ -97,11 +115,12 @@ impl Index {
         reaches(&self.members, addr, now, count)
     }
 
-    /// Appends each name with each of its members, name after name, those of one name in order of their beginnings. If out of
-    /// memory, only some may be appended.
+    /// Appends each name with each of its members, name after name, those of one name in order of their beginnings. Takes room
+    /// for all of them first, and no more. If out of memory, only some may be appended.
     pub fn list(&self, out: &mut Vec<(Name, Lease)>) -> Result<(), AllocError>
         ensures { OnOk result (out.new.items ≡ out.old.items ++ rows_of self.now) }
     {
+        out.reserve(self.count())?;
         list_in(&self.members, out)
     }
 
@@ -160,7 +179,8 @@ impl Index {
         true
     }
 
-    /// Removes the lease of the name and the address, if it is over at `now`. Takes no memory.
+    /// Removes the lease of the name and the address, if it is over at `now`. No look-up if none of all leases is. Takes no
+    /// memory.
     pub fn end_over(&mut self, name: &Name, addr: u32, now: u64)
         requires names { IsDistinct same_name (keys_of self.old) }
         ensures leases { living now self.new ≡ living now self.old }
@@ -168,10 +188,12 @@ impl Index {
         ensures fewer { length (rows_of self.new) ≤ length (rows_of self.old) }
         ensures names { IsDistinct same_name (keys_of self.new) }
     {
-        if !has_over(self.members(name), addr, now) {
+        if !any_over::<Brand>(&self.ends, now, Blank::new(1)) {
             return;
         }
-        self.end(name, addr);
+        if has_over(self.members(name), addr, now) {
+            self.end(name, addr);
+        }
     }
 
     /// Removes the lease that expired first, if one is over at `now`. Takes no memory.
@@ -240,7 +262,7 @@ fn any_over<L: Ledger>(ends: &Ends, now: u64, blank: Blank) -> bool
 }
 
 /// Whether at least `count` members of this address live at `now`. It reads name after name until it has found so many.
-fn reaches(members: &IndexMap<Name, Named>, addr: u32, now: u64, count: usize) -> bool
+fn reaches(members: &ByName, addr: u32, now: u64, count: usize) -> bool
     ensures { IsTrue result ↔ (count ≤ count_of now addr (rows_of members.now.entries)) }
 {
     let mut rest = members.as_slice();
@@ -257,7 +279,7 @@ fn reaches(members: &IndexMap<Name, Named>, addr: u32, now: u64, count: usize) -
 }
 
 /// Appends each name with each of its members.
-fn list_in(members: &IndexMap<Name, Named>, out: &mut Vec<(Name, Lease)>) -> Result<(), AllocError>
+fn list_in(members: &ByName, out: &mut Vec<(Name, Lease)>) -> Result<(), AllocError>
     ensures { OnOk result (out.new.items ≡ out.old.items ++ rows_of members.now.entries) }
 {
     let mut rest = members.as_slice();

@@ -6,6 +6,7 @@
 
 mod both;
 mod boxed_name;
+mod by_name;
 mod config;
 mod ends;
 mod fault;

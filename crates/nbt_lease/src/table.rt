@@ -21,6 +21,7 @@ use crate::restoring::{begin_live, count_live};
 use crate::standing::Standing;
 use nbt_name::{Kind, Name};
 use std::alloc::{AllocError, Global};
+use std::hash::RandomState;
 use std::marker::{Brand, Model};
 use std::sync::ledger::{Blank, Ledger};
 
@@ -103,6 +104,15 @@ impl Table {
             last: now,
             index,
         })
+    }
+
+    /// Takes room for as many names as there may be leases, so that no later call moves what the table has as it grows, and
+    /// hashes names by these keys from now on, so that whoever doesn't know them can't choose names with equal hashes. Neither
+    /// changes what any call returns, but that a name needs less memory later. If out of memory, all is as before.
+    pub fn make_room(&mut self, keys: RandomState) -> Result<(), AllocError>
+        ensures { self.new ≡ self.old }
+    {
+        self.index.make_room(self.config.rows(), keys)
     }
 
     /// The limits.

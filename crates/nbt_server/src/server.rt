@@ -12,7 +12,8 @@ use arrayvec::ArrayVec;
 use nbt_lease::{Config, Lease, Moment, Table};
 use nbt_name::{Addr, Name};
 use nbt_packet::read;
-use std::alloc::Global;
+use std::alloc::{AllocError, Global};
+use std::hash::RandomState;
 use std::marker::Model;
 
 /// A name server (RFC 1001 section 15.1, RFC 1002 section 5.1.4): the leases that it has granted, the time it started, and how
@@ -59,6 +60,15 @@ impl Server {
         ensures { self.new ≡ limited (Some rows) self.old }
     {
         self.client_rows = Some(rows);
+    }
+
+    /// Takes room for as many names as there may be leases, so that no later call moves those that there are as more come, and
+    /// finds names by these keys from now on: who doesn't know them can't choose names that are found slowly. Nothing else
+    /// changes. If out of memory, all is as before.
+    pub fn make_room(&mut self, keys: RandomState) -> Result<(), AllocError>
+        ensures { self.new ≡ self.old }
+    {
+        self.table.make_room(keys)
     }
 
     /// A server that goes on with what was kept of it: its limits, its start, its last time, and rows with its leases, those of
