@@ -65,7 +65,7 @@ abbrev pub going_on : Form → Header → Times → ConfigValue → Seen → (si
 going_on form h t config s silent_after_boot =
     if not (nat_eq h.life config.life) then Err why.OtherLife
     else if not (nat_eq h.longest config.longest) then Err why.OtherLongest
-    else if not (nat_eq h.rows config.rows) then Err why.OtherRows
+    else if not (nat_le h.rows config.rows) then Err why.OtherRows
     else if not (has_sound_times h t s) then Err why.BadTimes
     else if is_same_clock h t s then Ok (by_same_clock h t s)
     else by_other_clock form h t s silent_after_boot

@@ -21,7 +21,7 @@ pub enum Silence {
     /// 2: they were granted under another longest lease.
     #[error("another LONGEST")]
     OtherLongest,
-    /// 3: they were granted under another number of rows.
+    /// 3: they were granted under more rows.
     #[error("another number of rows")]
     OtherRows,
     /// 4: the file has times that no server keeps: a beginning after the last time, or a time past 2^60 ms.
@@ -117,7 +117,7 @@ pub fn why_silent(
     if header.longest != u64::from(config.longest()) {
         return Err(Silence::OtherLongest);
     }
-    if header.rows != config.rows() as u64 {
+    if header.rows > config.rows() as u64 {
         return Err(Silence::OtherRows);
     }
     if !has_sound_times(header, times, seen) {
