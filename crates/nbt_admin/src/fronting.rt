@@ -38,7 +38,7 @@ impl<'a> ReadEach<'a> for Networks {
 }
 
 /// The names that are fixed by the file of this path; none without a path. Refused at the first line that can't be taken; and with
-/// `Store` where the file can't be read, is no regular one, or has 4 MiB or more: a line in `errors` then says why.
+/// `Store` where the file can't be read, is no regular one, or has 16 MiB or more: a line in `errors` then says why.
 fn fixed_of<M: Files, E: Write>(
     machine: &M,
     alloc: Global,
@@ -71,7 +71,7 @@ fn fixed_of<M: Files, E: Write>(
 }
 
 /// The networks of the file of this path; none without a path. Refused where the file can't be taken; and with `Store` where it can't be read, is no
-/// regular one, or has 4 MiB or more: a line in `errors` then says why.
+/// regular one, or has 16 MiB or more: a line in `errors` then says why.
 fn networks_of<M: Files, E: Write>(
     machine: &M,
     alloc: Global,

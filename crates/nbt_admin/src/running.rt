@@ -135,7 +135,7 @@ fn ask<M: Net + time::Clock + RandomSource, W: Write, E: Write>(
 }
 
 /// Runs a name server, or only says what it would do, and returns the status.
-fn serve<M: Net + time::Clock + Files<File = File>, W: Write, E: Write>(
+fn serve<M: Net + time::Clock + RandomSource + Files<File = File>, W: Write, E: Write>(
     machine: &M,
     alloc: Global,
     arguments: &ServerArguments,
@@ -173,7 +173,7 @@ fn check_start<M: Net + time::Clock + Files<File = File>, W: Write, E: Write>(
 }
 
 /// Runs a name server to its end, and returns the status.
-fn serve_on<M: Net + time::Clock + Files<File = File>, W: Write, E: Write>(
+fn serve_on<M: Net + time::Clock + RandomSource + Files<File = File>, W: Write, E: Write>(
     machine: &M,
     alloc: Global,
     arguments: &ServerArguments,

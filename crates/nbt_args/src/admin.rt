@@ -338,12 +338,12 @@ the node exporter's textfile collector. The three files must differ.
 A client is the address that a registration comes from. One with as many live leases as --rows-per-client says, unique names and
 groups together, is refused one of a further name, with SRV_ERR; what it has it keeps, and renews. Machines behind one address count
 as one client. While the server keeps as many leases as --rows says, it refuses each further one likewise. With --state a start with
-another --rows than before doesn't go on with the leases that were kept.
+fewer --rows than before doesn't go on with the leases that were kept.
 
 NETWORK is an address and how many of its first bits the others share, as 192.0.2.0/24, or an address alone. A machine of no NETWORK
 is refused each registration, refresh and overwrite, with RFS_ERR; it may still ask for names. --fixed reads FILE: lines as
 `FILER#20 unique 192.0.2.7` and `OFFICE#00 group 192.0.2.9`, with spaces or tabs between the words, of which several of one group
-are its addresses, up to 48; up to 1024 names; a line that begins with # is a remark. `nbt import` makes such a file of an lmhosts
+are its addresses, up to 48; up to 65536 names; a line that begins with # is a remark. `nbt import` makes such a file of an lmhosts
 or a wins.dat. Such a name is found from the first moment on, with the longest lease
 as its TTL. Its own machine may register, refresh and release it, which changes nothing; nobody else may, with ACT_ERR. With --state
 a lease that another machine has of it wins until it ends, or is released: it is found, but not renewed, and the name's own machine

@@ -34,14 +34,14 @@ number of its line and why:
   FILER#20 unique 192.0.2.7
   # line 3: OFFICE#1C group 192.0.2.1: a group, which its machines join by themselves
 
-KIND is one of these. FILE has less than 4 MiB.
+KIND is one of these. FILE has less than 128 MiB.
   wins.dat  what Samba's nmbd keeps as a WINS server; names whose time is over, or that were released, are left out
   lmhosts   as Windows and Samba read it; a name without a suffix is three, of 00, 03 and 20; another file that it includes isn't read
   nbtscan   its table, or what it prints with -s, also with -v; the user who is logged in isn't taken
   list      what `nbt nbns --leases` keeps; its times aren't looked at
 
 Left out are groups, since a fixed name is refused to every other machine; addresses of no machine; further addresses of a name; names
-with octets outside ASCII; and what goes beyond 1024 names. Letters become capitals, except those of nbtscan and of a list. After a
+with octets outside ASCII; and what goes beyond 65536 names. Letters become capitals, except those of nbtscan and of a list. After a
 thousand remarks more are only counted.
 
 Examples:

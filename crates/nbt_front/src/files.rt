@@ -16,7 +16,7 @@ use std::rt::Files;
 use std::{fs, io};
 
 /// Such a file has fewer octets (our profile).
-const FILE_MOST: u64 = 1 << 22;
+const FILE_MOST: u64 = 1 << 24;
 
 /// How long no file is looked at after a look, in milliseconds (our profile).
 const PAUSE: u64 = 1_000;
@@ -303,7 +303,7 @@ fn names_in<'a, M: Files>(
 }
 
 /// The octets of the file of this path. Refused where that is no regular file, since a pipe that nobody writes would keep the server, and a
-/// device doesn't end; and where it has 4 MiB or more.
+/// device doesn't end; and where it has 16 MiB or more.
 pub fn octets_in<M: Files>(machine: &M, alloc: Global, path: &str) -> io::Result<Vec<u8>> {
     if !fs::metadata(machine, path)?.is_file() {
         return Err(io::Error::other("no regular file"));

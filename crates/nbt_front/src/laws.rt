@@ -52,7 +52,7 @@ pub fn what_was_fixed_waits()
     ensures not_confirmed { (old : DeskValue) (front : FrontValue) (live : Rows) (at now ip : ℕ) (m reply : MessageValue) (r : Registration) → WouldBeSecond old at now ip r → Claims m r → ¬ Decides (renewed front live at old) now ip m FixedConfirmed reply }
 {}
 
-/// 1,024 names may be fixed, and 48 addresses of a group; a file names 1,024 networks at most (our profile).
+/// 65,536 names may be fixed, and 48 addresses of a group; a file names 1,024 networks at most (our profile).
 pub fn numbers()
     ensures names { NAMES_MOST ≡ names_most }
     ensures networks { NETWORKS_MOST ≡ networks_most }

@@ -18,7 +18,7 @@ use std::alloc::{AllocError, Global};
 use std::marker::Model;
 
 /// How many names may be fixed (our profile).
-pub const NAMES_MOST: usize = 1_024;
+pub const NAMES_MOST: usize = 65_536;
 
 /// The names that are fixed, each with its kind and its addresses. One is found by one look-up.
 #[derive(Drop)]

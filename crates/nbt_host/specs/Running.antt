@@ -74,6 +74,3 @@ HostsHere a all old_text text = Here a (λ old_port watch port at. HostsOver Udp
 
 abbrev pub HostFailsHere : HostArguments → Fault → (old_text text : Option (List ℕ)) → Type 0
 HostFailsHere a fault old_text text = Here a (λ old_port watch port at. HostOverFails UdpDoes TellsHere LooksHere at a fault old_port watch old_text port text)
-
-abbrev pub HostEndsHere : HostArguments → Fault → (old_text text : Option (List ℕ)) → Type 0
-HostEndsHere a fault old_text text = Here a (λ old_port watch port at. HostOverEnds UdpDoes TellsHere LooksHere at a fault old_port watch old_text port text)

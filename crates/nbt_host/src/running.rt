@@ -1,7 +1,7 @@
 //! A host over UDP and the system's clocks.
 
 ghost use Rattle.std.specs.Prelude.{◌≡◌, Err, IfOk, IfErr};
-ghost use Rattle.nbt_host.specs.Running.{HostsOver, HostOverEnds, HostOverFails, HostsHere, HostEndsHere, HostFailsHere};
+ghost use Rattle.nbt_host.specs.Running.{HostsOver, HostOverEnds, HostOverFails, HostsHere, HostFailsHere};
 
 use crate::arguments::HostArguments;
 use crate::host::Host;
@@ -34,8 +34,6 @@ pub fn run_host<M: Net + time::Clock + RandomSource, W: Write, E: Write>(
 ) -> Result<bool, Fault>
     ensures ok { IfOk result (λ all. HostsHere arguments.now all (W.contents writer.old) (W.contents writer.new)) }
     ensures device { result ≡ Err Fault.Device → HostFailsHere arguments.now Fault.Device (W.contents writer.old) (W.contents writer.new) }
-    ensures output { result ≡ Err Fault.Output → HostEndsHere arguments.now Fault.Output (W.contents writer.old) (W.contents writer.new) }
-    ensures memory { result ≡ Err Fault.Memory → HostEndsHere arguments.now Fault.Memory (W.contents writer.old) (W.contents writer.new) }
 {
     let mut port = own_port(machine, arguments.bind, errors).map_err(|_| Fault::NoPort)?;
     let salt = random_id(machine, errors)?;

@@ -24,6 +24,7 @@ mod place;
 mod renewing;
 mod report;
 mod resuming;
+mod roomy;
 mod running;
 mod server;
 mod standing;

@@ -7,6 +7,7 @@ ghost use Rattle.nbt_serve.specs.Runs.{live_rows};
 
 use crate::arguments::StateFolder;
 use crate::folder::FolderStore;
+use crate::roomy::make_room;
 use nbt_lease::{Config, Lease, Moment};
 use nbt_log::write_time;
 use nbt_name::{Addr, Name};
@@ -20,6 +21,7 @@ use std::alloc::{AllocError, Global};
 use std::fs::File;
 use std::io::{ErrorKind, Write};
 use std::net::Net;
+use std::random::RandomSource;
 use std::rt::Files;
 use std::{io, time};
 
@@ -79,7 +81,7 @@ pub(crate) struct Clocks<'a, M: time::Clock> {
     pub told: Told,
 }
 
-impl<'a, M: Files<File = File>> Locked<'a, M> {
+impl<'a, M: Files<File = File> + RandomSource> Locked<'a, M> {
     /// Locks a folder, which has to be there; `None` where another server has locked it, and a line in `errors` says so. Refused with `Memory`
     /// or `Store`: a line in `errors` says why.
     pub fn lock<E: Write>(
@@ -100,7 +102,8 @@ impl<'a, M: Files<File = File>> Locked<'a, M> {
         }
     }
 
-    /// Reads the boot and the file, and a server begins with what is found, by what these clocks of this machine told. Refused with
+    /// Reads the boot and the file, and a server begins with what is found, by what these clocks of this machine told, with room for all
+    /// that it may have. Refused with
     /// `Memory`; with `Store` where they can't be read, and where a lease that was kept may outlast the silence of a server that begins
     /// anew, as [`outlasts`] says: a line in `errors` says which.
     pub fn begin<E: Write>(
@@ -117,7 +120,9 @@ impl<'a, M: Files<File = File>> Locked<'a, M> {
     {
         let boot = boot_here(machine, alloc, self.folder, errors)?;
         let kept = self.disk.read(alloc, config.rows());
-        begin_with(alloc, &boot, kept, state, config, told, errors)
+        let mut begun = begin_with(alloc, &boot, kept, state, config, told, errors)?;
+        make_room(machine, &mut begun.server, errors)?;
+        Ok(begun)
     }
 }
 

@@ -30,6 +30,7 @@ use std::alloc::Global;
 use std::fs::File;
 use std::io::Write;
 use std::net::Net;
+use std::random::RandomSource;
 use std::rt::Files;
 use std::time;
 
@@ -48,7 +49,12 @@ pub(crate) struct StartedServer<'a, M: time::Clock + Files> {
 /// Over a folder that is locked, reads the clocks and the file, and prints how a server begins with what is found. Before, a line in `errors` says of each lease that
 /// stands in the way of a fixed name until when it does. Refused with `Output`, and else with another fault than `Device`, before anything is printed; a line
 /// in `errors` says why.
-pub(crate) fn start<'a, M: Net + time::Clock + Files<File = File>, W: Write, E: Write>(
+pub(crate) fn start<
+    'a,
+    M: Net + time::Clock + RandomSource + Files<File = File>,
+    W: Write,
+    E: Write,
+>(
     machine: &'a M,
     alloc: Global,
     arguments: &NbnsArguments,

@@ -24,6 +24,7 @@ use nbt_store::Store;
 use std::alloc::Global;
 use std::io::Write;
 use std::net::Net;
+use std::random::RandomSource;
 use std::rt::Files;
 use std::time;
 
@@ -34,7 +35,7 @@ use std::time;
 /// memory before the first line; `Output` where one of these files is none that may be replaced, and then nothing is printed, or where
 /// the first line can't be written; `Device` at the hundredth turn in a row that fails. Of each but `Memory` a line in `errors` says what
 /// failed, and why. A failure to write to `errors` is ignored.
-pub fn run_nbns<M: Net + time::Clock + Files, W: Write, E: Write>(
+pub fn run_nbns<M: Net + time::Clock + RandomSource + Files, W: Write, E: Write>(
     machine: &M,
     alloc: Global,
     arguments: &NbnsArguments,

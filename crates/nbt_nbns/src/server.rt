@@ -13,6 +13,7 @@ use std::alloc::Global;
 use std::fs::File;
 use std::io::Write;
 use std::net::Net;
+use std::random::RandomSource;
 use std::rt::Files;
 use std::time;
 
@@ -47,7 +48,7 @@ impl Folder {
 /// long it is silent and why, and stays up as [`crate::keep_on`] does, by a clock that goes on over boots. Returns `Own` once its time is over.
 /// Where another server has the lock it prints nothing, returns `Held`, and a line in `errors` says so. Refused as [`run_nbns`]; and with `Store` where the folder can't be used, read
 /// or written at the start, or later: a line in `errors` says why.
-pub fn run_server<M: Net + time::Clock + Files<File = File>, W: Write, E: Write>(
+pub fn run_server<M: Net + time::Clock + RandomSource + Files<File = File>, W: Write, E: Write>(
     machine: &M,
     alloc: Global,
     arguments: &ServerArguments,
@@ -67,7 +68,7 @@ pub fn run_server<M: Net + time::Clock + Files<File = File>, W: Write, E: Write>
 }
 
 /// Runs a name server that keeps its leases.
-fn run_kept<M: Net + time::Clock + Files<File = File>, W: Write, E: Write>(
+fn run_kept<M: Net + time::Clock + RandomSource + Files<File = File>, W: Write, E: Write>(
     machine: &M,
     alloc: Global,
     arguments: &NbnsArguments,
@@ -95,7 +96,7 @@ fn run_kept<M: Net + time::Clock + Files<File = File>, W: Write, E: Write>(
 
 /// The same over a port that was bound, and a folder that was locked. Its front has a clock of its own that tells the times of the server's,
 /// since the leases that stand in the way of fixed names end by those.
-fn run_locked<'a, M: Net + time::Clock + Files<File = File>, W: Write, E: Write>(
+fn run_locked<'a, M: Net + time::Clock + RandomSource + Files<File = File>, W: Write, E: Write>(
     machine: &'a M,
     alloc: Global,
     arguments: &NbnsArguments,

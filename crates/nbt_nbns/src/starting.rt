@@ -17,6 +17,7 @@ use crate::keeper::Keeper;
 use crate::lister::Lister;
 use crate::logger::Logger;
 use crate::place::FilePlace;
+use crate::roomy::make_room;
 use crate::state::State;
 use nbt_lease::{Config, Moment};
 use nbt_log::{Dates, Origin, Tally};
@@ -27,6 +28,7 @@ use nbt_server::Server;
 use std::alloc::Global;
 use std::io::Write;
 use std::net::Net;
+use std::random::RandomSource;
 use std::rt::Files;
 use std::{io, time};
 
@@ -62,7 +64,7 @@ pub(crate) type MachineJournal<'a, M> = Journal<MachineClock<'a, M>, FilePlace<'
 /// Reads both clocks, looks at the files, and prints where a server serves, for how long it is silent, and until when; then the server
 /// begins without a state, and limits its clients. Refused with `NoClock`, `Memory` or `Output` before anything is printed, and with `Output` where the
 /// line can't be written: a line in `errors` says why of each but `Memory`.
-pub(crate) fn start<'a, M: Net + time::Clock + Files, W: Write, E: Write>(
+pub(crate) fn start<'a, M: Net + time::Clock + RandomSource + Files, W: Write, E: Write>(
     machine: &'a M,
     alloc: Global,
     arguments: &NbnsArguments,
@@ -80,10 +82,11 @@ pub(crate) fn start<'a, M: Net + time::Clock + Files, W: Write, E: Write>(
         moment: start,
         time: day.now(),
     };
+    let mut server = Server::start(alloc, arguments.config, start);
+    make_room(machine, &mut server, errors)?;
     let journal = tell_begin(
         machine, alloc, arguments, port, dates, day, start, writer, errors,
     )?;
-    let mut server = Server::start(alloc, arguments.config, start);
     server.limit_clients(arguments.rows_per_client);
     Ok(Started {
         clock,

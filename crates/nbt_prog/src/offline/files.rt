@@ -7,8 +7,8 @@ use std::io::{Read, Write};
 use std::rt::Files;
 use std::{io, time};
 
-/// The most octets of a file, and one more (our profile): so many as the file of fixed names has.
-const FILE_MOST: u64 = 1 << 22;
+/// The most octets of a file, and one more (our profile): the list of a million leases has no more.
+const FILE_MOST: u64 = 1 << 27;
 
 /// How standard input is called as a file.
 pub const INPUT_PATH: &str = "-";
@@ -18,7 +18,7 @@ const SECOND: u64 = 1_000;
 
 /// Where files are, and a clock.
 pub trait Place {
-    /// The octets of the file of this path. Refused where it can't be read, and where it has 4 MiB or more.
+    /// The octets of the file of this path. Refused where it can't be read, and where it has 128 MiB or more.
     fn octets_in(&self, alloc: Global, path: &str) -> io::Result<Vec<u8>>;
 
     /// The time of day in seconds since 1970, if it is known.
@@ -78,7 +78,7 @@ pub fn read_file<P: Place, R: Read, E: Write>(
     read
 }
 
-/// All that a reader has. Refused where it has 4 MiB or more.
+/// All that a reader has. Refused where it has 128 MiB or more.
 fn whole<R: Read>(alloc: Global, reader: &mut R) -> io::Result<Vec<u8>> {
     let mut octets = Vec::new(alloc);
     reader.take(FILE_MOST).read_to_end(&mut octets)?;

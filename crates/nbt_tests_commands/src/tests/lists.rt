@@ -110,12 +110,12 @@ fn what_time_leaves_of_files(rt: HostRuntime) {
     }
 }
 
-/// A file of 1,100 names, of as many lines that are none, and of a name that a second line has again.
+/// A file of 65,600 names, of as many lines that are none, and of a name that a second line has again.
 #[test]
 fn names_and_remarks_are_limited(rt: HostRuntime) {
     let alloc = rt.alloc();
     let mut text = String::new(alloc);
-    for number in 0..1_100u32 {
+    for number in 0..65_600u32 {
         writeln!(text, "192.0.2.7:N{number}:20U").expect(&rt, "a line");
         writeln!(text, "192.0.2.7:N{number}").expect(&rt, "a line");
     }
@@ -124,13 +124,13 @@ fn names_and_remarks_are_limited(rt: HostRuntime) {
         .add(text.as_bytes(), None, None)
         .ok()
         .expect(&rt, "what was added");
-    expect_eq(&rt, &"taken", &added.taken, &1_024);
-    expect_eq(&rt, &"left", &added.left, &(1_100 + 76));
+    expect_eq(&rt, &"taken", &added.taken, &65_536);
+    expect_eq(&rt, &"left", &added.left, &(65_600 + 64));
     let made = import.finish().ok().expect(&rt, "what was made");
     let lines = made.as_bytes().split(|octet| *octet == b'\n').count();
-    expect_eq(&rt, &"lines", &lines, &(1 + 1_024 + REMARKS_MOST + 1));
+    expect_eq(&rt, &"lines", &lines, &(1 + 65_536 + REMARKS_MOST + 1));
     let names = read_fixed(alloc, made.as_bytes()).ok().expect(&rt, "names");
-    expect_eq(&rt, &"names", &names.len(), &1_024);
+    expect_eq(&rt, &"names", &names.len(), &65_536);
 }
 
 /// What the commands make of a file of the system, whose path is their last word, and what they say of it.
