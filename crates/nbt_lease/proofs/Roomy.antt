@@ -1,5 +1,5 @@
 -- Entries that go into a map without any, one after another, are there as they were.
-use Rattle.std.proofs.Common.{◌≡◌, ℕ, false, cond, List, [], ◌∷◌, ◌++◌, refl, sym, ap, subst, ◌∙◌}
+use Rattle.std.proofs.Common.{◌≡◌, false, List, [], ◌∷◌, ◌++◌, refl, sym, ap, subst, ◌∙◌}
 use Rattle.nbt_lease.proofs.Common.{AllByRecursion, IsDistinct, keys_of, append-nil, append_assoc, IsDistinct-head, IsDistinct-tail, NameValue, same_name, Lease, Entries}
 use Rattle.nbt_name.proofs.Same.{same_name-turned}
 use Rattle.indexmap.specs.IndexMap.{insert_entry, insert_all}

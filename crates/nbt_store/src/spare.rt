@@ -8,7 +8,7 @@ use std::io::{ErrorKind, Write};
 /// So many octets of room a file gets (our profile).
 pub(crate) const ROOM: u64 = 1 << 20;
 
-/// So many of them a file gets at once, at most (our profile): neither they nor their sync take long.
+/// So many of them a file gets at once, at most, unless too few are left (our profile): neither they nor their sync take long.
 pub(crate) const ROOM_PART: u64 = 1 << 16;
 
 /// Where fewer are left the file gets a part of them anew (our profile).
@@ -46,6 +46,12 @@ pub(crate) fn room_of(left: u64) -> Room {
 /// Whether so little is left that the file is to get a part of its room anew.
 pub(crate) fn lacks_part(left: u64) -> bool {
     left < WHOLE
+}
+
+/// So many octets of room a file gets at once that has so many left: no more than a part, but so many that there is room for changes.
+pub(crate) fn part_of(left: u64) -> u64 {
+    let part = ROOM_PART.max(LEAST.saturating_sub(left));
+    ROOM.saturating_sub(left).min(part)
 }
 
 /// Whether this says that the disk is full.

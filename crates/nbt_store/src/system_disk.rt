@@ -9,8 +9,8 @@ use crate::disk::Disk;
 use crate::disk_store::lines_most;
 use crate::room::Room;
 use crate::spare::{
-    LINE_MOST, PAUSE, PAUSE_BESIDE, ROOM, ROOM_PART, is_full, lacks_part, room_of, without_room,
-    write_zeros,
+    LINE_MOST, PAUSE, PAUSE_BESIDE, ROOM, ROOM_PART, is_full, lacks_part, part_of, room_of,
+    without_room, write_zeros,
 };
 use crate::syncs::Syncs;
 use nbt_lease::ROWS_MOST;
@@ -226,7 +226,8 @@ impl<R: Files + time::Clock> SystemDisk<'_, R> {
         }
     }
 
-    /// Gives the open file a part of the room that it lacks, as far as the disk has it, and makes that durable. Refused where another file is
+    /// Gives the open file a part of the room that it lacks, and so much that there is room for changes, as far as the disk has it, and makes
+    /// that durable. Refused where another file is
     /// in its place, and where the disk fails or is full.
     fn extend(&self) -> io::Result<()> {
         let mut how = File::options();
@@ -235,8 +236,7 @@ impl<R: Files + time::Clock> SystemDisk<'_, R> {
         if self.mark != Some(Mark::of(&file.metadata()?)) {
             return Err(moved());
         }
-        let lacks = ROOM.saturating_sub(self.left());
-        let done = write_zeros(&mut file, lacks.min(ROOM_PART));
+        let done = write_zeros(&mut file, part_of(self.left()));
         file.sync_data()?;
         self.size.set(file.seek(SeekFrom::End(0))?);
         done

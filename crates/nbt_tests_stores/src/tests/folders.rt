@@ -9,7 +9,8 @@ use nbt_name::{Addr, Kind, Name};
 use nbt_nbns::{Folder, FolderStore, NbnsArguments, ServerArguments, StateFolder, run_server};
 use nbt_port::{Bind, Fault};
 use nbt_store::{
-    Boot, Broken, Change, DiskStore, Header, Room, Store, SystemDisk, leases_at, load, this_boot,
+    Boot, Broken, Change, Disk, DiskStore, Header, Room, Store, SystemDisk, leases_at, load,
+    this_boot,
 };
 use nbt_testing::config;
 use std::fs::File;
@@ -773,6 +774,36 @@ fn a_file_gets_its_room_back_part_by_part(rt: HostRuntime) {
     let folder = path_for(&rt, "parts-of-room").expect(&rt, "a path");
     fs::create_dir(&rt, folder.as_str()).expect(&rt, "a folder");
     expect_parts_of_room(&rt, folder.as_str());
+    fs::remove_dir_all(&rt, folder.as_str()).expect(&rt, "removed");
+}
+
+/// Lines that took all of the room at once, and more: at the next look half of the room is there again.
+fn expect_room_at_once<R: Abort + AllocGlobal + Files<File = File> + time::Clock>(
+    rt: &R,
+    folder: &str,
+) {
+    let mut disk = SystemDisk::open_folder(rt, rt.alloc(), folder).expect(rt, "open folder");
+    disk.create(b"a").expect(rt, "a new file");
+    disk.install().expect(rt, "in its place");
+    let count = 2 * ROOM;
+    let mut octets = Vec::new(rt.alloc());
+    octets.resize(count as usize, b'a').expect(rt, "memory");
+    disk.append(octets.as_slice()).expect(rt, "memory");
+    disk.sync().expect(rt, "sync");
+    expect_eq(rt, &disk.room(), &Room::Ample);
+    let (size, lines) = sizes(rt, folder);
+    expect_eq(
+        rt,
+        &(size, lines),
+        &(lines.saturating_add(ROOM / 2), count.saturating_add(1)),
+    );
+}
+
+#[test]
+fn lines_that_take_all_of_the_room_are_no_full_disk(rt: HostRuntime) {
+    let folder = path_for(&rt, "room-at-once").expect(&rt, "a path");
+    fs::create_dir(&rt, folder.as_str()).expect(&rt, "a folder");
+    expect_room_at_once(&rt, folder.as_str());
     fs::remove_dir_all(&rt, folder.as_str()).expect(&rt, "removed");
 }
 

@@ -1,4 +1,4 @@
-use Rattle.std.proofs.Common.{◌≡◌, false, true, sym, ap, subst, ◌∙◌}
+use Rattle.std.proofs.Common.{◌≡◌, true, sym, ap, ◌∙◌}
 use Rattle.nbt_lease.proofs.Common.{Entries, members_of, has_over}
 use Rattle.nbt_lease.proofs.Living.{ends_over, none_is_over}
 use Rattle.nbt_lease.proofs.index.Index.end_over.Goals as goal

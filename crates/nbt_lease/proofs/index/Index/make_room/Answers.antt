@@ -1,4 +1,4 @@
-use Rattle.std.proofs.Common.{◌≡◌, sym, ap, subst, ◌∙◌}
+use Rattle.std.proofs.Common.{sym, ap, subst, ◌∙◌}
 use Rattle.indexmap.specs.IndexMap.{insert_all}
 use Rattle.nbt_lease.proofs.Common.{Entries, Agrees, same_name}
 use Rattle.nbt_lease.proofs.Roomy.{as_they_were}
