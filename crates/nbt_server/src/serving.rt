@@ -93,7 +93,8 @@ fn refusal_of(ip: u32, name: &LentName<'_>, addr: u32) -> Option<Refusal>
     None
 }
 
-/// Grants a registration or a refresh, or refuses it (RFC 1002 section 5.1.4.1).
+/// Grants a registration or a refresh, or refuses it (RFC 1002 section 5.1.4.1). Expired leases are removed also where a client
+/// is full: while some stand, its leases are counted one by one.
 fn lease(
     table: &mut Table,
     client_rows: Option<u32>,
@@ -116,6 +117,7 @@ fn lease(
     }
     let claim = Claim::from_registration(&asked);
     if is_full(client_rows, table, now, ip, &claim.name) {
+        table.sweep_some(now);
         return refuse(asked, Refusal::ClientFull, out);
     }
     let fault = match table.grant(now, &claim.name, asked.addr, asked.kind, asked.ttl) {

@@ -6,7 +6,10 @@ use super::at;
 use super::expect::{expect, expect_eq, expect_eq_in, expect_in};
 use nbt_lease::{Config, ConfigFault, GrantFault, Moment, Released, Table};
 use nbt_name::{Kind, Name};
+use std::fs;
+use std::hash::RandomState;
 use std::process::Abort;
+use std::rt::Files;
 
 /// A lease of 60 s that begins at 0 is over at this moment.
 const OVER: u64 = 60_000;
@@ -83,6 +86,72 @@ fn limits_of_many_rows(rt: HostRuntime) {
         &Config::large(1, 0, 0).err(),
         &Some(ConfigFault::Longest),
     );
+}
+
+/// How many rows a table has, those that are over too.
+fn count_rows<R: Abort + AllocGlobal>(rt: &R, table: &Table) -> u32 {
+    let mut rows = Vec::new(rt.alloc());
+    table.list_rows(&mut rows).expect(rt, "memory");
+    rows.len() as u32
+}
+
+/// A grant and a release remove 64 rows that are over, and their own, and no more.
+fn expect_few_removed<R: Abort + AllocGlobal>(rt: &R, table: &mut Table, rows: u32) {
+    let none = grant(rt, table, OVER, rows, rows);
+    expect_eq_in(rt, &rows, &none, &None);
+    expect_eq_in(rt, &rows, &count_rows(rt, table), &(rows - 64 + 1));
+    let none = grant(rt, table, OVER, 1_000, 1_000);
+    expect_eq_in(rt, &rows, &none, &None);
+    expect_eq_in(rt, &rows, &count_rows(rt, table), &(rows - 128 + 1));
+    let now = later(rt, table, OVER);
+    let gone = table.release(now, &numbered(rt, 2_000), 2_000);
+    expect_eq_in(rt, &rows, &gone, &Released::NoLease);
+    expect_eq_in(rt, &rows, &count_rows(rt, table), &(rows - 192));
+}
+
+#[test]
+fn a_call_removes_few_of_many_that_are_over(rt: HostRuntime) {
+    for rows in SIZES {
+        expect_few_removed(&rt, &mut full_table(&rt, rows), rows);
+    }
+}
+
+/// How many octets of address space this process has.
+fn address_space<R: Abort + AllocGlobal + Files>(rt: &R) -> u64 {
+    let text = fs::read_to_string(rt, "/proc/self/statm").expect(rt, "its sizes");
+    let pages: u64 = text
+        .as_str()
+        .split(' ')
+        .next()
+        .and_then(|word| word.parse().ok())
+        .expect(rt, "a number of pages");
+    4_096 * pages
+}
+
+/// Room for all rows is taken at once, once: a name has 237 octets at least. What the table had stays, and its calls are as before.
+#[test]
+fn a_table_takes_room_for_all_its_rows(rt: HostRuntime) {
+    let config = Config::large(1000, 60, 1_048_576).expect(&rt, "limits");
+    let mut table = Table::new(rt.alloc(), config);
+    for number in 0..100 {
+        expect_eq(&rt, &grant(&rt, &mut table, 0, number, number), &None);
+    }
+    let before = address_space(&rt);
+    let keys = RandomState::new(&rt).expect(&rt, "random octets");
+    table.make_room(keys).expect(&rt, "memory");
+    let room = address_space(&rt) - before;
+    expect(&rt, 1_048_576 * 237 < room && room < 1_048_576 * 474);
+    for number in 0..200 {
+        let wanted = (number < 100).then_some(GrantFault::Active);
+        expect_eq_in(
+            &rt,
+            &number,
+            &grant(&rt, &mut table, 0, number, CLIENT),
+            &wanted,
+        );
+    }
+    expect_eq(&rt, &count_rows(&rt, &table), &200);
+    expect_eq(&rt, &address_space(&rt), &(before + room));
 }
 
 /// A table is full at its rows, to the last millisecond; then all of its leases end at once, and there is room.

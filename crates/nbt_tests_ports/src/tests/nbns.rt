@@ -15,6 +15,7 @@ use std::io::Write;
 use std::net::Net;
 use std::os::unix::fs::symlink;
 use std::process::Abort;
+use std::random::RandomSource;
 use std::rt::Files;
 use std::{env, fs, io, process, time};
 
@@ -195,7 +196,7 @@ fn arguments_with<R: Abort + AllocGlobal>(rt: &R, content: Content, path: &str) 
 }
 
 /// Runs a server. Returns how it ended, what it printed, and what it said of errors.
-fn run<R: AllocGlobal + Net + time::Clock + Files>(
+fn run<R: AllocGlobal + Net + time::Clock + RandomSource + Files>(
     rt: &R,
     arguments: &NbnsArguments,
 ) -> (Result<(), Fault>, Vec<u8>, Vec<u8>) {
@@ -261,7 +262,7 @@ fn a_list_whose_file_can_not_be_had(rt: HostRuntime) {
 }
 
 /// Whether a list at this path is refused before anything is served, for what stands at the path with this behind it.
-fn is_refused<R: Abort + AllocGlobal + Net + time::Clock + Files>(
+fn is_refused<R: Abort + AllocGlobal + Net + time::Clock + RandomSource + Files>(
     rt: &R,
     path: &str,
     end: &str,
@@ -271,7 +272,7 @@ fn is_refused<R: Abort + AllocGlobal + Net + time::Clock + Files>(
 }
 
 /// The same of another file that is kept.
-fn is_content_refused<R: Abort + AllocGlobal + Net + time::Clock + Files>(
+fn is_content_refused<R: Abort + AllocGlobal + Net + time::Clock + RandomSource + Files>(
     rt: &R,
     content: Content,
     path: &str,
@@ -290,7 +291,7 @@ fn is_content_refused<R: Abort + AllocGlobal + Net + time::Clock + Files>(
 const ANOTHER: &str = "its first line isn't '# live leases of nbt nbns': name another file";
 
 /// Whether a file of this text, which stands at a list's path or at that of the new file beside it, stays as it is.
-fn stays<R: Abort + AllocGlobal + Net + time::Clock + Files>(
+fn stays<R: Abort + AllocGlobal + Net + time::Clock + RandomSource + Files>(
     rt: &R,
     path: &str,
     end: &str,
@@ -359,7 +360,7 @@ const FIRST_LINES: [(Content, &str, &str, &str); 3] = [
 ];
 
 /// Whether a file is put in place of one of its own first line, and of no other.
-fn replaces_its_own<R: Abort + AllocGlobal + Net + time::Clock + Files>(
+fn replaces_its_own<R: Abort + AllocGlobal + Net + time::Clock + RandomSource + Files>(
     rt: &R,
     path: &str,
     row: &(Content, &str, &str, &str),

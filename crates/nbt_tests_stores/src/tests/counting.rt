@@ -10,6 +10,7 @@ use nbt_testing::{REGISTRATION, config, octets, registration_of_many};
 use std::fs::File;
 use std::net::{Ipv4Addr, Net, SocketAddr, UdpSocket};
 use std::process::Abort;
+use std::random::RandomSource;
 use std::rt::Files;
 use std::{fs, time};
 
@@ -50,14 +51,14 @@ fn counted<R: Abort + AllocGlobal>(rt: &R, folder: &str, stats: &str) -> ServerA
 }
 
 /// Runs it, while the client sends at each reading of a clock that shows ten seconds more each time.
-fn run_counted<R: Abort + AllocGlobal + Net + time::Clock + Files<File = File>>(
+fn run_counted<R: Abort + AllocGlobal + Net + time::Clock + RandomSource + Files<File = File>>(
     rt: &R,
     arguments: &ServerArguments,
 ) {
     run_beside(rt, &client(rt), arguments)
 }
 
-fn run_beside<'a, R: Abort + AllocGlobal + Net + time::Clock + Files<File = File>>(
+fn run_beside<'a, R: Abort + AllocGlobal + Net + time::Clock + RandomSource + Files<File = File>>(
     rt: &'a R,
     client: &'a Client,
     arguments: &ServerArguments,

@@ -10,6 +10,7 @@ use nbt_testing::config;
 use std::fs::File;
 use std::net::Net;
 use std::process::Abort;
+use std::random::RandomSource;
 use std::rt::Files;
 use std::{fs, time};
 
@@ -56,7 +57,7 @@ fn fixing<R: Abort + AllocGlobal>(rt: &R, folder: &str, names: &str) -> ServerAr
     arguments
 }
 
-fn expect_said<R: Abort + AllocGlobal + Net + time::Clock + Files<File = File>>(
+fn expect_said<R: Abort + AllocGlobal + Net + time::Clock + RandomSource + Files<File = File>>(
     rt: &R,
     folder: &str,
     row: &(&str, bool),

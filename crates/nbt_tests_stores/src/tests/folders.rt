@@ -17,6 +17,7 @@ use std::fs::File;
 use std::net::Net;
 use std::os::unix::fs::symlink;
 use std::process::Abort;
+use std::random::RandomSource;
 use std::rt::Files;
 use std::{env, fs, io, process, time};
 
@@ -455,7 +456,7 @@ fn arguments<R: Abort + AllocGlobal>(rt: &R, folder: &str) -> ServerArguments {
 }
 
 /// Runs it. Returns how it ended, what it printed, and what it said.
-fn run<R: Abort + AllocGlobal + Net + time::Clock + Files<File = File>>(
+fn run<R: Abort + AllocGlobal + Net + time::Clock + RandomSource + Files<File = File>>(
     rt: &R,
     folder: &str,
 ) -> (Result<Folder, Fault>, Vec<u8>, Vec<u8>) {
@@ -467,7 +468,7 @@ fn run<R: Abort + AllocGlobal + Net + time::Clock + Files<File = File>>(
 }
 
 /// The same, while another has the folder or not.
-fn run_at<R: Abort + AllocGlobal + Net + time::Clock + Files<File = File>>(
+fn run_at<R: Abort + AllocGlobal + Net + time::Clock + RandomSource + Files<File = File>>(
     rt: &R,
     folder: &str,
     there: There,
@@ -512,7 +513,7 @@ fn expect_aside_is<R: Abort + AllocGlobal + Files>(
     expect_eq_in(rt, row, &text.as_ref().map(|text| text.as_str()), &aside);
 }
 
-fn expect_row<R: Abort + AllocGlobal + Net + time::Clock + Files<File = File>>(
+fn expect_row<R: Abort + AllocGlobal + Net + time::Clock + RandomSource + Files<File = File>>(
     rt: &R,
     row: &(There, Comes),
     folder: &str,
@@ -549,7 +550,7 @@ fn what_a_server_finds_in_a_folder(rt: HostRuntime) {
 }
 
 /// The first line of a server over this folder can't be written, and it says so.
-fn expect_unwritten<R: Abort + AllocGlobal + Net + time::Clock + Files<File = File>>(
+fn expect_unwritten<R: Abort + AllocGlobal + Net + time::Clock + RandomSource + Files<File = File>>(
     rt: &R,
     folder: &str,
     errors: &mut Vec<u8>,
@@ -572,7 +573,7 @@ fn a_first_line_of_a_kept_server_that_can_not_be_written(rt: HostRuntime) {
 }
 
 /// Runs a server whose statistics go to the file `lock` of its folder. Returns how it ended, and what it said.
-fn run_over_lock<R: Abort + AllocGlobal + Net + time::Clock + Files<File = File>>(
+fn run_over_lock<R: Abort + AllocGlobal + Net + time::Clock + RandomSource + Files<File = File>>(
     rt: &R,
     folder: &str,
 ) -> (Result<Folder, Fault>, Vec<u8>) {
@@ -585,7 +586,7 @@ fn run_over_lock<R: Abort + AllocGlobal + Net + time::Clock + Files<File = File>
 }
 
 /// Statistics aren't put in place of the lock of this folder, which says what it is.
-fn expect_locked<R: Abort + AllocGlobal + Net + time::Clock + Files<File = File>>(
+fn expect_locked<R: Abort + AllocGlobal + Net + time::Clock + RandomSource + Files<File = File>>(
     rt: &R,
     folder: &str,
 ) {

@@ -13,6 +13,7 @@ use std::cell::Cell;
 use std::fs::{File, Metadata, OpenOptions};
 use std::net::{Net, SocketAddr, UdpSocket};
 use std::process::Abort;
+use std::random::RandomSource;
 use std::rt::Files;
 use std::time::Duration;
 use std::{env, fs, io, process, time};
@@ -143,6 +144,12 @@ impl<'a, N: Net> Net for Machine<'a, N> {
             return Err(io::Error::from(io::ErrorKind::OutOfMemory));
         }
         self.host.bind_udp(addr)
+    }
+}
+
+impl<'a, N: RandomSource> RandomSource for Machine<'a, N> {
+    fn fill_bytes(&self, octets: &mut [u8]) -> io::Result<()> {
+        self.host.fill_bytes(octets)
     }
 }
 
@@ -637,7 +644,7 @@ const SERVED: u16 = 20_199;
 const CAME: &str = "nbt: serving 127.42.32.2:20199 too\n";
 
 /// Runs it, while another address comes.
-fn expect_told<R: Abort + AllocGlobal + Net + Files<File = File>>(
+fn expect_told<R: Abort + AllocGlobal + Net + RandomSource + Files<File = File>>(
     rt: &R,
     machine: &Machine<'_, R>,
     folder: Option<&str>,
@@ -666,7 +673,7 @@ fn a_server_says_which_address_came(rt: HostRuntime) {
 }
 
 /// A server says so without a folder, and with this one.
-fn expect_came<'a, R: Abort + AllocGlobal + Net + Files<File = File>>(
+fn expect_came<'a, R: Abort + AllocGlobal + Net + RandomSource + Files<File = File>>(
     rt: &'a R,
     first: &'a str,
     list: &'a str,

@@ -18,7 +18,7 @@ returns-clause-does c = rw c.refuse-2.ensures.outcome (λ m asks. by_rule (λ ov
 
 pub returns-then-is_full-clause-does : goal.returns-then-is_full-clause-does
 returns-then-is_full-clause-does c = rw c.refuse-then-is_full.ensures.outcome (λ m asks.
-    by_limit (record { r = c.args.asked; asks = asks; own = c.in_default.ensures.own; full = rw c.from_registration-claim.ensures at (c.if-is_full.ensures.0 refl) }) refl c.refuse-then-is_full.ensures.written refl)
+    by_limit (record { r = c.args.asked; asks = asks; own = c.in_default.ensures.own; full = rw c.from_registration-claim.ensures at (c.if-is_full.ensures.0 refl) }) refl c.refuse-then-is_full.ensures.written c.sweep_some.ensures.leases)
 
 pub returns-in_default-refusal_by-clause-room : goal.returns-in_default-refusal_by-clause-room
 returns-in_default-refusal_by-clause-room c = λ m asks. not_over c.args.client_rows c.args.table.now c.args.now c.args.ip c.args.asked m asks (rw c.from_registration-claim.ensures at c.if-is_full.ensures)
