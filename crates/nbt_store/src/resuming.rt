@@ -153,7 +153,7 @@ fn later_rows(
 ) -> Result<Vec<(Name, Lease)>, AllocError>
     ensures { IfOk result (λ later. later.items ≡ later_rows_by by rows.now) }
 {
-    let mut later = Vec::new(alloc);
+    let mut later = Vec::with_capacity(alloc, rows.len())?;
     for row in rows {
         later.push(later_row(row, by))?;
     }

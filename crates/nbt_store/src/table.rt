@@ -294,7 +294,7 @@ pub(crate) fn list_rows(
 ) -> Result<Vec<(Name, Lease)>, AllocError>
     ensures { IfOk result (λ rows. rows.items ≡ rows_of members.now.entries) }
 {
-    let mut rows = Vec::new(alloc);
+    let mut rows = Vec::with_capacity(alloc, members.len())?;
     let mut rest = members.as_slice();
     'names: while let Some(((name, group), others)) = rest.split_first() {
         list_leases(name, group.as_slice(), &mut rows)?;

@@ -154,6 +154,35 @@ fn a_table_takes_room_for_all_its_rows(rt: HostRuntime) {
     expect_eq(&rt, &address_space(&rt), &(before + room));
 }
 
+/// Has an address lease a number's name. Where memory is refused for that the same call is made once more.
+fn grow(rt: &impl Abort, table: &mut Table, number: u32) {
+    let mut refused = grant(rt, table, 0, number, number);
+    if refused == Some(GrantFault::OutOfMemory) {
+        refused = grant(rt, table, 0, number, number);
+    }
+    expect_eq_in(rt, &number, &refused, &None);
+}
+
+/// A table of a million rows grows, and takes room. With `rt try --test --fail-alloc N` the Nth allocation is refused. Where it is one of
+/// these calls', the call says so, the leases are as before, and the same call with memory is done.
+#[test]
+fn refused_memory_at_each_growth_of_a_large_table(rt: HostRuntime) {
+    let config = Config::large(1000, 60, 1_048_576).expect(&rt, "limits");
+    let mut table = Table::new(rt.alloc(), config);
+    for number in 0..40 {
+        grow(&rt, &mut table, number);
+    }
+    let keys = RandomState::new(&rt).expect(&rt, "random octets");
+    if table.make_room(keys).is_err() {
+        expect_eq(&rt, &count_rows(&rt, &table), &40);
+        table.make_room(keys).expect(&rt, "memory");
+    }
+    for number in 0..80 {
+        grow(&rt, &mut table, number);
+    }
+    expect_eq(&rt, &count_rows(&rt, &table), &80);
+}
+
 /// A table is full at its rows, to the last millisecond; then all of its leases end at once, and there is room.
 #[test]
 fn many_leases_end_at_once(rt: HostRuntime) {

@@ -39,6 +39,9 @@ pub(super) struct Machine<'a, N> {
     pub has_memory: Cell<bool>,
     pub closed: Option<&'a str>,
     pub swap: Option<Swap<'a>>,
+    /// How many random octets were drawn, and whether there are any.
+    pub drawn: Cell<usize>,
+    pub has_random: bool,
 }
 
 /// While a file of this path is opened, the one of another path takes its place: before it is opened, or afterwards.
@@ -78,6 +81,8 @@ fn machine_of<'a, N>(host: &'a N, list: &'a str, since_boot: u64) -> Machine<'a,
         has_memory: Cell::new(true),
         closed: None,
         swap: None,
+        drawn: Cell::new(0),
+        has_random: true,
     }
 }
 
@@ -94,6 +99,8 @@ pub(super) fn machine_beside<'a, N>(host: &'a N, client: &'a Client) -> Machine<
         has_memory: Cell::new(true),
         closed: None,
         swap: None,
+        drawn: Cell::new(0),
+        has_random: true,
     }
 }
 
@@ -149,6 +156,11 @@ impl<'a, N: Net> Net for Machine<'a, N> {
 
 impl<'a, N: RandomSource> RandomSource for Machine<'a, N> {
     fn fill_bytes(&self, octets: &mut [u8]) -> io::Result<()> {
+        if !self.has_random {
+            return Err(io::Error::other("none"));
+        }
+        let drawn = self.drawn.get();
+        self.drawn.set(drawn.saturating_add(octets.len()));
         self.host.fill_bytes(octets)
     }
 }
@@ -692,4 +704,58 @@ fn expect_came<'a, R: Abort + AllocGlobal + Net + RandomSource + Files<File = Fi
     fs::remove_file(rt, first).expect(rt, "removed");
     fs::remove_file(rt, list).expect(rt, "removed");
     fs::remove_dir_all(rt, folder).expect(rt, "removed");
+}
+
+/// The port of the last test.
+const KEYED: u16 = 20_998;
+
+/// What a server says that draws no keys.
+const NO_KEYS: &[u8] =
+    b"nbt: the system gives no random keys, so names may be chosen that are found slowly: none\n";
+
+/// A server draws its keys at its start, 16 octets, and no more; where there are none it says so, and serves.
+fn expect_keys<R: Abort + AllocGlobal + Net + RandomSource + Files<File = File>>(
+    rt: &R,
+    machine: &Machine<'_, R>,
+    folder: Option<&str>,
+) {
+    let mut printed = Vec::new(rt.alloc());
+    let mut errors = Vec::new(rt.alloc());
+    let mut arguments = arguments(rt, folder);
+    arguments.nbns.bind = Bind::Every(KEYED);
+    machine.drawn.set(0);
+    let ended = run_server(machine, rt.alloc(), &arguments, &mut printed, &mut errors);
+    expect_eq(rt, &ended, &Ok(Folder::Own));
+    expect(
+        rt,
+        printed
+            .as_slice()
+            .starts_with(b"serving 127.42.32.1:20199, "),
+    );
+    let (drawn, said): (usize, &[u8]) = if machine.has_random {
+        (16, b"")
+    } else {
+        (0, NO_KEYS)
+    };
+    expect_eq(rt, &machine.drawn.get(), &drawn);
+    expect_eq(rt, &errors.as_slice(), &said);
+}
+
+#[test]
+fn a_server_draws_keys_at_its_start(rt: HostRuntime) {
+    let list = path_for(&rt, "keyed").expect(&rt, "a path");
+    let folder = path_for(&rt, "keyed-state").expect(&rt, "a path");
+    fs::write(&rt, list.as_str(), ONE).expect(&rt, "written");
+    fs::create_dir(&rt, folder.as_str()).expect(&rt, "a folder");
+    for has_random in [true, false] {
+        let machine = Machine {
+            step: 1_000,
+            has_random,
+            ..machine_of(&rt, list.as_str(), 0)
+        };
+        expect_keys(&rt, &machine, None);
+        expect_keys(&rt, &machine, Some(folder.as_str()));
+    }
+    fs::remove_file(&rt, list.as_str()).expect(&rt, "removed");
+    fs::remove_dir_all(&rt, folder.as_str()).expect(&rt, "removed");
 }
