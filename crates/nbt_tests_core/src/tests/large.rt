@@ -4,8 +4,11 @@ ghost use Rattle.std.specs.Prelude.{◌≤◌};
 
 use super::at;
 use super::expect::{expect, expect_eq, expect_eq_in, expect_in};
-use nbt_lease::{Config, ConfigFault, GrantFault, Moment, Released, Table};
-use nbt_name::{Kind, Name};
+use arrayvec::ArrayVec;
+use nbt_lease::{Config, ConfigFault, GrantFault, Lease, Moment, Released, Table};
+use nbt_name::{Addr, Kind, Name};
+use nbt_server::Server;
+use nbt_testing::octets;
 use std::fs;
 use std::hash::RandomState;
 use std::process::Abort;
@@ -113,6 +116,55 @@ fn expect_few_removed<R: Abort + AllocGlobal>(rt: &R, table: &mut Table, rows: u
 fn a_call_removes_few_of_many_that_are_over(rt: HostRuntime) {
     for rows in SIZES {
         expect_few_removed(&rt, &mut full_table(&rt, rows), rows);
+    }
+}
+
+/// A lease of a number's name.
+fn lease_of(rt: &impl Abort, number: u32, addr: u32, end: u64) -> (Name, Lease) {
+    let lease = Lease {
+        addr,
+        kind: Kind::Unique,
+        end,
+    };
+    (numbered(rt, number), lease)
+}
+
+/// A server of a hundred leases that are soon over, and of the one that its client may have.
+fn server_of_many<R: Abort + AllocGlobal>(rt: &R) -> Server {
+    let mut rows = Vec::new(rt.alloc());
+    for number in 0..100 {
+        rows.push(lease_of(rt, number, number, 1_000_001))
+            .expect(rt, "memory");
+    }
+    rows.push(lease_of(rt, 100, CLIENT, 1_060_000))
+        .expect(rt, "memory");
+    let config = Config::large(1000, 60, 4_097).expect(rt, "limits");
+    let (zero, now) = (Moment::zero(), at(rt, 1_000_000));
+    let mut server = Server::resume(rt.alloc(), config, zero, zero, now, rows.as_slice())
+        .ok()
+        .expect(rt, "a server");
+    server.limit_clients(1);
+    server
+}
+
+/// A client that is full is refused, and each time 64 leases that are over are removed: while some stand, its own are counted one by one.
+#[test]
+fn leases_that_are_over_go_where_a_client_is_full(rt: HostRuntime) {
+    let mut server = server_of_many(&rt);
+    let text = "0001 2900 two-parts TEAM NB again NB 60s group 10.0.0.1";
+    let asks = octets(&rt, text).expect(&rt, "octets");
+    let from = Addr {
+        ip: CLIENT,
+        port: 137,
+    };
+    for left in [37, 1, 1] {
+        let mut out = ArrayVec::new();
+        let now = at(&rt, 1_000_001);
+        let replies = server.on_datagram(now, from, asks.as_slice(), &mut out);
+        expect_eq(&rt, &replies, &Ok(true));
+        let rcode = out.as_slice().get(3).map(|octet| *octet & 15);
+        expect_eq(&rt, &rcode, &Some(2));
+        expect_eq(&rt, &count_rows(&rt, server.table()), &left);
     }
 }
 

@@ -3,6 +3,7 @@
 use super::expect::{expect, expect_eq, expect_eq_in};
 use arrayvec::ArrayVec;
 use nbt_front::{FixedNames, Front};
+use nbt_lease::Config;
 use nbt_name::Addr;
 use nbt_nbns::{Folder, NbnsArguments, ServerArguments, StateFolder, run_server};
 use nbt_port::{Bind, Device, Fault, Port, Route, UdpPort, UdpPorts};
@@ -713,7 +714,19 @@ const KEYED: u16 = 20_998;
 const NO_KEYS: &[u8] =
     b"nbt: the system gives no random keys, so names may be chosen that are found slowly: none\n";
 
-/// A server draws its keys at its start, 16 octets, and no more; where there are none it says so, and serves.
+/// What the system says of this process behind a word, in units of 1,024 octets.
+fn kilobytes<R: Abort + AllocGlobal + Files>(rt: &R, word: &str) -> u64 {
+    let text = fs::read_to_string(rt, "/proc/self/status").expect(rt, "its status");
+    text.as_str()
+        .lines()
+        .find_map(|line| line.strip_prefix(word))
+        .and_then(|rest| rest.trim_ascii().strip_suffix(" kB"))
+        .and_then(|count| count.parse().ok())
+        .expect(rt, "a number")
+}
+
+/// A server draws its keys at its start, 16 octets, and no more, and takes room for all its rows, of 237 octets at least; where there are
+/// no keys it says so, and serves.
 fn expect_keys<R: Abort + AllocGlobal + Net + RandomSource + Files<File = File>>(
     rt: &R,
     machine: &Machine<'_, R>,
@@ -723,7 +736,9 @@ fn expect_keys<R: Abort + AllocGlobal + Net + RandomSource + Files<File = File>>
     let mut errors = Vec::new(rt.alloc());
     let mut arguments = arguments(rt, folder);
     arguments.nbns.bind = Bind::Every(KEYED);
+    arguments.nbns.config = Config::large(1000, 60, 1_048_576).expect(rt, "limits");
     machine.drawn.set(0);
+    let before = kilobytes(rt, "VmSize:");
     let ended = run_server(machine, rt.alloc(), &arguments, &mut printed, &mut errors);
     expect_eq(rt, &ended, &Ok(Folder::Own));
     expect(
@@ -739,6 +754,8 @@ fn expect_keys<R: Abort + AllocGlobal + Net + RandomSource + Files<File = File>>
     };
     expect_eq(rt, &machine.drawn.get(), &drawn);
     expect_eq(rt, &errors.as_slice(), &said);
+    let took = kilobytes(rt, "VmPeak:").saturating_sub(before);
+    expect(rt, !machine.has_random || took >= 1_048_576 * 237 / 1_024);
 }
 
 #[test]
