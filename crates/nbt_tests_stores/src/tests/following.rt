@@ -745,7 +745,7 @@ fn expect_keys<R: Abort + AllocGlobal + Net + RandomSource + Files<File = File>>
         rt,
         printed
             .as_slice()
-            .starts_with(b"serving 127.42.32.1:20199, "),
+            .starts_with(b"serving 127.42.32.1:20998, "),
     );
     let (drawn, said): (usize, &[u8]) = if machine.has_random {
         (16, b"")
