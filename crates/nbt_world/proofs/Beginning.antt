@@ -73,6 +73,7 @@ can_begin {config} {w = w} {a} {b} {c} {i} {ms} {name} {y = y} {z} fresh limits 
     let node_at_zero = fresh.readings (suc i) in
     let config_is : s.server.table.config ≡ config = s.is.config_is ∙ fresh.config_is in
     let longest : s.server.table.config.longest ≡ config.longest = ap (λ (c : ConfigValue). c.longest) config_is in
+    let room : s.server.table.config.rows ≡ config.rows = ap (λ (c : ConfigValue). c.rows) config_is in
     let leased = none_leased (reading c.now 0) s.server.table.rows name s.is.empty in
     let row = limits.rows.0 in
     subst (λ (x : WorldValue). CanGet x (suc i) name) (sym adv.others)
@@ -82,7 +83,7 @@ can_begin {config} {w = w} {a} {b} {c} {i} {ms} {name} {y = y} {z} fresh limits 
       server_up = refl;
       speaks = omega arith;
       free = leased.0;
-      row = rw (leased.1, fresh.config_is) (omega arith);
+      row = rw (leased.1, room) (omega arith);
       client_row = λ most addr limit at. absurd (none-some most (sym s.is.no_limit ∙ limit));
       node = node;
       node_up = node_with_here v.ends i (Some node) n.addr n.at;

@@ -72,7 +72,7 @@ clock_changes law live holds {w} {v} {ms} {moves} adv kept = record {
       let k = kept.server server up in
       let past = k.past in
       let on = reads 0 (w.ends.server_addr, refl) in
-      record { config_is = k.config_is; past = omega arith; sound = law w.config (reading w.now 0) (reading v.now 0) server.table.rows on k.sound };
+      record { life_is = k.life_is; longest_is = k.longest_is; past = omega arith; sound = law w.config (reading w.now 0) (reading v.now 0) server.table.rows on k.sound };
   sent = sent;
   requests = λ on n a name p.
       ended-frame goes (reads n (a, p)) (λ moment message asked. asked) (kept.requests (before on) n a name p);

@@ -37,7 +37,7 @@ use Rattle.nbt_name.proofs.Same.{names_apart}
 use Rattle.nbt_world.specs.Inner.Handing.{Origin, listed, strange, harmless}
 use Rattle.nbt_world.proofs.Naming.{OneMessage, Laws, Sending, is_new, nothing_new, grows_by, UpAt, up_at, node_stays, stays_by_moves, adds_none, node_moves, kept_by_time, kept_hearing}
 use Rattle.nbt_world.proofs.Granting.{LeaseLaws}
-use Rattle.nbt_world.proofs.Served.{Took, request_moves, served_claims, still_claims}
+use Rattle.nbt_world.proofs.Served.{Took, request_moves, sound_by, served_claims, still_claims}
 use Rattle.nbt_world.proofs.Events.{passed, time_kept, other_kept}
 
 -- ---- a node hears something about a name
@@ -295,10 +295,11 @@ no_request_more {w} {d} {a = a} kept s (suc j) p kind first moment message o x =
 -- the server that has taken octets
 server_kept : LeaseLaws → {w : WorldValue} {server new : ServerValue} {ip : ℕ} {octets : List ℕ} {reply : Option MessageValue} → IsServerOf w server → ServerTakes server (reading w.now 0) ip octets reply new → IsServerOf w new
 server_kept laws {w} {server} {new} is t = record {
-  config_is = t.config ∙ is.config_is;
+  life_is = ap (λ (c : ConfigValue). c.life) t.config ∙ is.life_is;
+  longest_is = ap (λ (c : ConfigValue). c.longest) t.config ∙ is.longest_is;
   past = let e = t.last in omega arith;
-  sound = subst (λ (c : ConfigValue). IsSound c (reading w.now 0) (leases_at (reading w.now 0) new.table.rows)) is.config_is
-      (serves_octets_sound laws (subst (λ (c : ConfigValue). IsSound c (reading w.now 0) (leases_at (reading w.now 0) server.table.rows)) (sym is.config_is) is.sound) t.serves);
+  sound = sound_by server.table.config w.config (reading w.now 0) (leases_at (reading w.now 0) new.table.rows) is.longest_is
+      (serves_octets_sound laws (sound_by w.config server.table.config (reading w.now 0) (leases_at (reading w.now 0) server.table.rows) (sym is.longest_is) is.sound) t.serves);
 }
 
 took : {w : WorldValue} {server new : ServerValue} {from addr : Addr} {octets : List ℕ} {reply : Option MessageValue} {sent : List Datagram} → Handed w 0 from addr octets → latest w.ends ≡ Some server
@@ -311,8 +312,8 @@ took {w} {server} h up t grows more on =
       kept = h.kept;
       on = on;
       up = up;
-      config_is = is.config_is;
-      sound = subst (λ (c : ConfigValue). IsSound c (reading w.now 0) (leases_at (reading w.now 0) server.table.rows)) (sym is.config_is) is.sound;
+      longest_is = is.longest_is;
+      sound = sound_by w.config server.table.config (reading w.now 0) (leases_at (reading w.now 0) server.table.rows) (sym is.longest_is) is.sound;
       origin = h.origin;
       takes = t;
       grows = grows;
@@ -340,13 +341,14 @@ server_takes_kept law laws {w} {server} {new} {from} {addr} h up (server_takes (
     (λ on. served_claims laws (took h up t (grows_by w.sent d) (λ a q moment message r. elim (replied_more law.one_message sending r) [ inl old ↦ inl old | inr is ↦ inr (is.0, is.1, ap Some (sym is.2)) ]) on))
 server_takes_kept law laws {w} {server} {new} h up (server_forgets n t) =
     server_changes w (Some new) w.ends.crashed w.sent h.kept (λ s e. subst (λ (x : ServerValue). IsServerOf w x) (same_Some new s e) is) (nothing_new w w.ends.server_addr) h.kept.replies
-    (λ on. still_claims h.kept on up t.leases t.start t.config)
+    (λ on. still_claims h.kept on up t.leases t.start (ap (λ (c : ConfigValue). c.longest) t.config))
   where
     is : IsServerOf w new
     is =
         let k = h.kept.server server up in
         record {
-          config_is = t.config ∙ k.config_is;
+          life_is = ap (λ (c : ConfigValue). c.life) t.config ∙ k.life_is;
+          longest_is = ap (λ (c : ConfigValue). c.longest) t.config ∙ k.longest_is;
           past = let e = t.last in omega arith;
           sound = subst (λ (l : Leases). IsSound w.config (reading w.now 0) l) (sym t.leases) k.sound;
         }

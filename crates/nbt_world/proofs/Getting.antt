@@ -184,23 +184,23 @@ record HasGranted (w : WorldValue) (addr : Addr) (id : ℕ) (name : NameValue) (
   world_is : v ≡ granted_world w server addr (registered 0 (wish id name kind addr.ip (granted w.config.longest ttl)))
 
 taken_granted : OneMessage → {w : WorldValue} {addr : Addr} {id : ℕ} {name : NameValue} {kind : Kind} {ttl : ℕ} {octets : List ℕ} {taken : TakenValue} {ends : Ends} {server : ServerValue} → Spells octets (registration (wish id name kind addr.ip ttl))
-    → (IsStar name → ⊥) → w.ends.server ≡ Some server → server.table.config ≡ w.config → speaks_from server ≤ reading w.now 0 → leases_at (reading w.now 0) server.table.rows name ≡ [] → live_count (reading w.now 0) server.table.rows < w.config.rows
+    → (IsStar name → ⊥) → w.ends.server ≡ Some server → server.table.config.longest ≡ w.config.longest → speaks_from server ≤ reading w.now 0 → leases_at (reading w.now 0) server.table.rows name ≡ [] → live_count (reading w.now 0) server.table.rows < server.table.config.rows
     → ((most : ℕ) → server.client_rows ≡ Some most → count_of (reading w.now 0) addr.ip server.table.rows < most) → (taken ≢ is_lost) → EndTakes (reading w.now 0) w.ends addr octets 0 taken ends → HasGranted w addr id name kind ttl (after_taking w ends w.ends.server_addr addr taken)
-taken_granted law {server = server} spells star up config speaks none few room kept (finds_down n down) = absurd (none-some server (sym down ∙ up))
-taken_granted law {w} {addr} {id} {name} {kind} {ttl} {octets} {server = server} spells star up config speaks none few room kept (by_server s new taken is does) = go (same_Some server s (sym up ∙ is)) taken does kept
+taken_granted law {server = server} spells star up longest speaks none few room kept (finds_down n down) = absurd (none-some server (sym down ∙ up))
+taken_granted law {w} {addr} {id} {name} {kind} {ttl} {octets} {server = server} spells star up longest speaks none few room kept (by_server s new taken is does) = go (same_Some server s (sym up ∙ is)) taken does kept
   where
     go : server ≡ s → (taken : TakenValue) → ServerDoes (reading w.now 0) s addr.ip octets taken new → (taken ≢ is_lost) → HasGranted w addr id name kind ttl (after_taking w (with_server w.ends (Some new) w.ends.crashed) w.ends.server_addr addr taken)
     go same taken (server_forgets n forgets) kept = absurd (kept refl)
     go same taken (server_takes reply n t) kept =
-        let of_config : s.table.config ≡ w.config = ap (λ (x : ServerValue). x.table.config) (sym same) ∙ config in
+        let of_longest : s.table.config.longest ≡ w.config.longest = ap (λ (x : ServerValue). x.table.config.longest) (sym same) ∙ longest in
         let is_granted : reply ≡ Some (registered 0 (wish id name kind addr.ip (granted w.config.longest ttl))) =
         octets_free law spells star
         (subst (λ (x : ServerValue). speaks_from x ≤ reading w.now 0) same speaks)
         (subst (λ (x : ServerValue). leases_at (reading w.now 0) x.table.rows name ≡ []) same none)
-        (subst (λ (x : ServerValue). live_count (reading w.now 0) x.table.rows < x.table.config.rows) same (subst (λ (c : ConfigValue). live_count (reading w.now 0) server.table.rows < c.rows) (sym config) few))
+        (subst (λ (x : ServerValue). live_count (reading w.now 0) x.table.rows < x.table.config.rows) same few)
         (subst (λ (x : ServerValue). (most : ℕ) → x.client_rows ≡ Some most → count_of (reading w.now 0) addr.ip x.table.rows < most) same room)
         t.serves
-        ∙ ap (λ (c : ConfigValue). Some (registered 0 (wish id name kind addr.ip (granted c.longest ttl)))) of_config in
+        ∙ ap (λ (n : ℕ). Some (registered 0 (wish id name kind addr.ip (granted n ttl)))) of_longest in
         record {
           server = new;
           spells = subst (λ (r : Option MessageValue). IfSome r (λ m. Spells (text m) m)) is_granted t.spelled;
@@ -297,7 +297,7 @@ got_granted law {a} {b} {c} {i} {name} {kind} {ttl} {y} kept can h second memory
     by_hand : HandsOver (asked_world a i h.new h.addr h.octets) 0 h.addr a.ends.server_addr h.octets y c → HasGranted (asked_world a i h.new h.addr h.octets) h.addr h.id name kind ttl c
     by_hand hand =
         subst (λ (u : WorldValue). HasGranted (asked_world a i h.new h.addr h.octets) h.addr h.id name kind ttl u) {x = after_taking (asked_world a i h.new h.addr h.octets) hand.ends a.ends.server_addr h.addr hand.taken} {y = c} (sym hand.new_is)
-        (taken_granted law h.spells can.no_star can.server_up (kept.server can.server (latest-up a.ends can.server can.server_up)).config_is can.speaks can.free can.row (λ most limit. can.client_row most h.addr limit h.at)
+        (taken_granted law h.spells can.no_star can.server_up (kept.server can.server (latest-up a.ends can.server can.server_up)).longest_is can.speaks can.free can.row (λ most limit. can.client_row most h.addr limit h.at)
         (λ e. memory (hand.outcome_is ∙ ap (outcome_of_taking (asked_world a i h.new h.addr h.octets)) e)) hand.takes)
 
 -- the reply is handed to the node, which holds the name then

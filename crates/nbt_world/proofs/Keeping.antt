@@ -167,7 +167,7 @@ node_changes {w} {i} {addr} {sent} adds x is names replies claims = record {
   };
   clocks = read_with w (with_node w.ends (suc i) x) sent (addr_with w.ends i x) adds.kept.clocks;
   nodes = λ n a node p up. node_at n a node (sym (addr_with w.ends i x n) ∙ p) up (cases_eq n (suc i));
-  server = λ server up. let k = adds.kept.server server up in record { config_is = k.config_is; past = k.past; sound = k.sound };
+  server = λ server up. let k = adds.kept.server server up in record { life_is = k.life_is; longest_is = k.longest_is; past = k.past; sound = k.sound };
   sent = λ d c. sent_frame (addr_with w.ends i x) (omega arith) (λ n e seen. seen) (all_sent w addr sent adds.kept adds.new d c);
   requests = λ on n a name p. requests_at on n a name (sym (addr_with w.ends i x n) ∙ p) (cases_eq n (suc i));
   replies = λ on n a name p. replies_at on n a name (sym (addr_with w.ends i x n) ∙ p) (cases_eq n (suc i));
@@ -236,7 +236,7 @@ server_changes w x y sent kept is new replies claims = record {
   nodes = λ n a node p up.
       let k = kept.nodes n a node (sym (server_addr_with w.ends x y n) ∙ p) (sym (server_node_with w.ends x y n) ∙ up) in
       record { addr_is = k.addr_is; server_is = k.server_is; config_is = k.config_is; distinct = k.distinct; past = k.past };
-  server = λ server up. let k = is server up in record { config_is = k.config_is; past = k.past; sound = k.sound };
+  server = λ server up. let k = is server up in record { life_is = k.life_is; longest_is = k.longest_is; past = k.past; sound = k.sound };
   sent = λ d c. sent_frame (server_addr_with w.ends x y) (omega arith) (λ n e seen. seen) (all_sent w w.ends.server_addr sent kept new d c);
   requests = λ on n a name p. requests_at on n a name (sym (server_addr_with w.ends x y n) ∙ p);
   replies = λ on n a name p. rw (server_node_with w.ends x y n) (replies on n a name (sym (server_addr_with w.ends x y n) ∙ p));

@@ -10,9 +10,9 @@ use Rattle.nbt_packet.specs.declared.message.Registration.{Registration}
 use Rattle.nbt_packet.specs.Message.{MessageValue, registration, overwrite, refresh, release, query, status_request, registered, released, found, not_found, status, wait}
 use Rattle.nbt_packet.specs.Spelling.{Spells}
 use Rattle.nbt_lease.specs.declared.lease.Lease.{Lease}
-use Rattle.nbt_lease.specs.Config.{ConfigValue, granted}
+use Rattle.nbt_lease.specs.Config.{ConfigValue, granted, milliseconds}
 use Rattle.nbt_lease.specs.Drift.{hold}
-use Rattle.nbt_lease.specs.Lease.{leases_at, IsSound}
+use Rattle.nbt_lease.specs.Lease.{Leases, leases_at, AreSound, IsSound}
 use Rattle.nbt_server.specs.Serving.{ServerValue, speaks_from}
 use Rattle.nbt_node.specs.Node.{NodeValue}
 use Rattle.nbt_world.specs.declared.clocks.Clocks.{Clocks}
@@ -58,12 +58,16 @@ asked_kind {n = n} {a} {q} {kind} kept on (listed d c f t o delivered) want m sp
     (kept.requests on n a q want.at).one_kind kind d.moment m want.wants
     (record { datagram = d; among = c; sender = ap (λ (x : Addr). x.ip) f ∙ sym same; moment_is = refl; spelled = subst (λ (xs : List ℕ). Spells xs m) (sym o) spells; request = is }) delivered
 
+-- whether leases are sound depends on the longest lease alone
+pub sound_by : (one other : ConfigValue) (now : ℕ) (leases : Leases) → one.longest ≡ other.longest → IsSound one now leases → IsSound other now leases
+sound_by one other now leases same sound = λ name. subst (λ (n : ℕ). AreSound (now + milliseconds n) (leases name)) same (sound name)
+
 -- The server took a datagram, and sent its reply, if any.
 pub record Took (w : WorldValue) (server new : ServerValue) (from to : Addr) (octets : List ℕ) (reply : Option MessageValue) (sent : List Datagram) : Type 0 where
   pub kept : Invariant w
   pub on : IsTrue w.timely
   pub up : latest w.ends ≡ Some server
-  pub config_is : server.table.config ≡ w.config
+  pub longest_is : server.table.config.longest ≡ w.config.longest
   pub sound : IsSound server.table.config (reading w.now 0) (leases_at (reading w.now 0) server.table.rows)
   pub origin : Origin w from to octets
   pub takes : ServerTakes server (reading w.now 0) from.ip octets reply new
@@ -104,7 +108,7 @@ gives : LeaseLaws → {w : WorldValue} {server new : ServerValue} {from to : Add
     → (g : Given w from reply sent n a q kind)
     → (speaks_from server ≤ reading w.now 0) × Gives (reading w.now 0) w.config.longest a.ip g.r.ttl (leases_at (reading w.now 0) server.table.rows q) (leases_at (reading w.now 0) new.table.rows q) kind
 gives laws {w} {server} {new} {a = a} {q} {kind} took g =
-    subst (λ (c : ConfigValue). (speaks_from server ≤ reading w.now 0) × Gives (reading w.now 0) c.longest a.ip g.r.ttl (leases_at (reading w.now 0) server.table.rows q) (leases_at (reading w.now 0) new.table.rows q) kind) took.config_is
+    subst (λ (n : ℕ). (speaks_from server ≤ reading w.now 0) × Gives (reading w.now 0) n a.ip g.r.ttl (leases_at (reading w.now 0) server.table.rows q) (leases_at (reading w.now 0) new.table.rows q) kind) took.longest_is
     (subst (λ (x : Addr). (speaks_from server ≤ reading w.now 0) × Gives (reading w.now 0) server.table.config.longest x.ip g.r.ttl (leases_at (reading w.now 0) server.table.rows q) (leases_at (reading w.now 0) new.table.rows q) kind) g.to_is
     (octets_give laws took.sound took.takes.serves g.reply_is g.replied.reply (λ m spells is. asked_kind took.kept took.on took.origin g.want m spells (ap (λ (x : Addr). x.ip) (sym g.to_is)) is)))
 
@@ -177,12 +181,10 @@ served_claims laws {w} {server} {new} {from} {reply = reply} {sent} took = recor
 
 -- the leases are as they were, and the silence
 pub still_claims : {w : WorldValue} {server new : ServerValue} → Invariant w → IsTrue w.timely → latest w.ends ≡ Some server → leases_at (reading w.now 0) new.table.rows ≡ leases_at (reading w.now 0) server.table.rows
-    → new.start ≡ server.start → new.table.config ≡ server.table.config → {kept : Option ServerValue} → ClaimsKept (record w { ends = with_server w.ends (Some new) kept; sent = w.sent })
-still_claims {w} {server} {new} kept on up leases start config {kept = y} =
+    → new.start ≡ server.start → new.table.config.longest ≡ server.table.config.longest → {kept : Option ServerValue} → ClaimsKept (record w { ends = with_server w.ends (Some new) kept; sent = w.sent })
+still_claims {w} {server} {new} kept on up leases start longest {kept = y} =
     server_claims w (Some new) y kept on (λ n a q kind end p c lt is. still a q kind (reading is.moment 0 + 1000 * is.seconds) (subst (λ (s : Option ServerValue). Covers (reading w.now 0) s a.ip q kind (reading is.moment 0 + 1000 * is.seconds)) up is.backed))
   where
     still : (a : Addr) (q : NameValue) (kind : Kind) (till : ℕ) → Covers (reading w.now 0) (Some server) a.ip q kind till → Covers (reading w.now 0) (Some new) a.ip q kind till
     still a q kind till (inl leased) = inl (subst (λ (ls : List Lease). IsLeased ls a.ip kind till) (ap (λ (f : NameValue → List Lease). f q) (sym leases)) leased)
-    still a q kind till (inr silent) =
-        let longest : new.table.config.longest ≡ server.table.config.longest = ap (λ (c : ConfigValue). c.longest) config in
-        inr (omega arith)
+    still a q kind till (inr silent) = inr (omega arith)

@@ -39,7 +39,7 @@ starts_kept w number ends kept (server_starts server down new) =
     server_changes w (Some server) None w.sent kept (λ s e. subst (λ (x : ServerValue). IsServerOf w x) (same_Some server s e) is) (nothing_new w w.ends.server_addr) kept.replies (λ on. started_claims w server kept on new)
   where
     is : IsServerOf w server
-    is = record { config_is = new.config_is; past = let e = new.last in omega arith; sound = new_is_sound w.config (reading w.now 0) server.table.rows new.empty }
+    is = record { life_is = ap (λ (c : ConfigValue). c.life) new.config_is; longest_is = ap (λ (c : ConfigValue). c.longest) new.config_is; past = let e = new.last in omega arith; sound = new_is_sound w.config (reading w.now 0) server.table.rows new.empty }
 starts_kept w number ends kept (node_starts i addr at down) =
     node_kept (adds_nothing i kept at) (Some (started 14 addr w.ends.server_addr w.config (reading w.now (suc i))))
     (λ s e. subst (λ (x : NodeValue). IsNodeOf w (suc i) addr x) (same_Some (started 14 addr w.ends.server_addr w.config (reading w.now (suc i))) s e)
@@ -61,7 +61,7 @@ same_kept w x y same kept =
 pub resumes_kept : (w : WorldValue) (ends : Ends) → Invariant w → Resumes (reading w.now 0) w.ends ends → Invariant (record w { ends = ends })
 resumes_kept w ends kept (server_resumes was server down is resumes) =
     server_changes w (Some server) None w.sent kept (λ s e. subst (λ (x : ServerValue). IsServerOf w x) (same_Some server s e) as_kept) (nothing_new w w.ends.server_addr) kept.replies
-    (λ on. still_claims kept on there resumes.leases resumes.start resumes.config)
+    (λ on. still_claims kept on there resumes.leases resumes.start (ap (λ (c : ConfigValue). c.longest) resumes.config))
   where
     there : latest w.ends ≡ Some was
     there = rw (down, is) refl
@@ -69,19 +69,33 @@ resumes_kept w ends kept (server_resumes was server down is resumes) =
     as_kept : IsServerOf w server
     as_kept =
         let k = kept.server was there in
-        record { config_is = resumes.config ∙ k.config_is; past = resumes.called; sound = subst (λ (l : Leases). IsSound w.config (reading w.now 0) l) (sym resumes.leases) k.sound }
+        record {
+          life_is = ap (λ (c : ConfigValue). c.life) resumes.config ∙ k.life_is;
+          longest_is = ap (λ (c : ConfigValue). c.longest) resumes.config ∙ k.longest_is;
+          past = resumes.called;
+          sound = subst (λ (l : Leases). IsSound w.config (reading w.now 0) l) (sym resumes.leases) k.sound;
+        }
 
--- a limit of its clients changes no lease, and neither does lifting it
-pub limit_kept : (w : WorldValue) (server : ServerValue) (rows : Option ℕ) → Invariant w → w.ends.server ≡ Some server → Invariant (record w { ends = with_server w.ends (Some (limited rows server)) w.ends.crashed })
-limit_kept w server rows kept is =
-    server_changes w (Some (limited rows server)) w.ends.crashed w.sent kept (λ s e. subst (λ (x : ServerValue). IsServerOf w x) (same_Some (limited rows server) s e) as_kept)
-    (nothing_new w w.ends.server_addr) kept.replies (λ on. still_claims kept on there refl refl refl)
+-- the server is another one, whose leases, start and longest lease are the same
+stays_kept : (w : WorldValue) (server new : ServerValue) → Invariant w → w.ends.server ≡ Some server → (IsServerOf w server → IsServerOf w new) → leases_at (reading w.now 0) new.table.rows ≡ leases_at (reading w.now 0) server.table.rows
+    → new.start ≡ server.start → new.table.config.longest ≡ server.table.config.longest → Invariant (record w { ends = with_server w.ends (Some new) w.ends.crashed })
+stays_kept w server new kept is stays leases start longest =
+    server_changes w (Some new) w.ends.crashed w.sent kept (λ s e. subst (λ (x : ServerValue). IsServerOf w x) (same_Some new s e) (stays (kept.server server there))) (nothing_new w w.ends.server_addr) kept.replies
+    (λ on. still_claims kept on there leases start longest)
   where
     there : latest w.ends ≡ Some server
     there = latest-up w.ends server is
 
-    as_kept : IsServerOf w (limited rows server)
-    as_kept = let k = kept.server server there in record { config_is = k.config_is; past = k.past; sound = k.sound }
+-- a limit of its clients changes no lease, and neither does lifting it
+pub limit_kept : (w : WorldValue) (server : ServerValue) (rows : Option ℕ) → Invariant w → w.ends.server ≡ Some server → Invariant (record w { ends = with_server w.ends (Some (limited rows server)) w.ends.crashed })
+limit_kept w server rows kept is =
+    stays_kept w server (limited rows server) kept is (λ k. record { life_is = k.life_is; longest_is = k.longest_is; past = k.past; sound = k.sound }) refl refl refl
+
+-- nor does another number of leases that it may have
+pub rows_kept : (w : WorldValue) (server : ServerValue) (rows : ℕ) → Invariant w → w.ends.server ≡ Some server
+    → Invariant (record w { ends = with_server w.ends (Some (record server { table = record server.table { config = record server.table.config { rows = rows } } })) w.ends.crashed })
+rows_kept w server rows kept is =
+    stays_kept w server (record server { table = record server.table { config = record server.table.config { rows = rows } } }) kept is (λ k. record { life_is = k.life_is; longest_is = k.longest_is; past = k.past; sound = k.sound }) refl refl refl
 
 pub limited_kept : (w : WorldValue) (rows : ℕ) → Invariant w → Invariant (record w { ends = with_limit w.ends rows })
 limited_kept w rows kept = by_server w.ends.server refl

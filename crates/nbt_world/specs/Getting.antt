@@ -22,7 +22,7 @@ pub record CanGet (world : WorldValue) (number : ℕ) (name : NameValue) : Type 
   pub server_up : world.ends.server ≡ Some server
   pub speaks : speaks_from server ≤ reading world.now 0
   pub free : leases_at (reading world.now 0) server.table.rows name ≡ []
-  pub row : live_count (reading world.now 0) server.table.rows < world.config.rows
+  pub row : live_count (reading world.now 0) server.table.rows < server.table.config.rows
   pub client_row : (most : ℕ) (addr : Addr) → server.client_rows ≡ Some most → addr_of world.ends number ≡ Some addr → count_of (reading world.now 0) addr.ip server.table.rows < most
   -- the node is up, has rested since its start, knows the name as Idle, and has a slot for it
   pub node : NodeValue

@@ -83,10 +83,13 @@ pub fn ids_and_early_refreshes_keep_the_facts()
     nbt_lease::laws::rest_outlasts_datagrams();
 }
 
-/// A world keeps its facts too where the server gives its clients a limit, or lifts it: which leases live stays the same.
+/// A world keeps its facts too where the server gives its clients a limit, or lifts it (`clients`), and where it may have another
+/// number of leases (`rows`): which leases live stays the same.
 pub fn limits_keep_the_facts()
-    ensures { (world : WorldValue) (server : ServerValue) (rows : Option ℕ) → Invariant world → world.ends.server ≡ Some server
+    ensures clients { (world : WorldValue) (server : ServerValue) (rows : Option ℕ) → Invariant world → world.ends.server ≡ Some server
         → Invariant (record world { ends = with_server world.ends (Some (limited rows server)) world.ends.crashed }) }
+    ensures rows { (world : WorldValue) (server : ServerValue) (rows : ℕ) → Invariant world → world.ends.server ≡ Some server
+        → Invariant (record world { ends = with_server world.ends (Some (record server { table = record server.table { config = record server.table.config { rows = rows } } })) world.ends.crashed }) }
 {}
 
 /// A node gets a free name as soon as its request and the reply arrive: where the name can be got, whatever worlds the three

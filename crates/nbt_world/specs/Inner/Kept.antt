@@ -189,10 +189,11 @@ pub record IsNodeOf (world : WorldValue) (number : ℕ) (addr : Addr) (node : No
   pub distinct : AreDistinct node.slots
   pub past : node.last ≤ reading world.now number
 
--- The server, also while it is down, has the world's limits, and sound leases, none of which ends later than the longest
--- lease from what it reads now.
+-- The server, also while it is down, has the world's life and longest lease, and sound leases, none of which ends later than
+-- the longest lease from what it reads now. It may have another number of leases than the world's limits say.
 pub record IsServerOf (world : WorldValue) (server : ServerValue) : Type 0 where
-  pub config_is : server.table.config ≡ world.config
+  pub life_is : server.table.config.life ≡ world.config.life
+  pub longest_is : server.table.config.longest ≡ world.config.longest
   pub past : server.last ≤ reading world.now 0
   pub sound : IsSound world.config (reading world.now 0) (leases_at (reading world.now 0) server.table.rows)
 
