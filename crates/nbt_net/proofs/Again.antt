@@ -1,11 +1,11 @@
 -- What a server that begins wrote is what a run begins with, so it goes on over any number of lives.
 use Rattle.std.proofs.Common.{◌≡◌, ◌≤◌, ◌+◌, ℕ, max, List, [], ◌∷◌, ◌++◌, map, Option, Some, None, Ok, refl, sym, ap, subst, ◌∙◌, arith}
 use Rattle.nbt_name.specs.Wire.{NameValue}
-use Rattle.nbt_lease.specs.Config.{ConfigValue, IsConfig}
+use Rattle.nbt_lease.specs.Config.{ConfigValue, IsConfig, IsLongest}
 use Rattle.nbt_lease.specs.Lease.{Leases, Rows, leases_at, AreApart}
 use Rattle.nbt_lease.proofs.Rows.{none_live, later_is}
 use Rattle.nbt_port.specs.PortCalls.{Chain}
-use Rattle.nbt_port.proofs.Chains.{chain-append}
+use Rattle.nbt_port.proofs.Chains.{chain_on, chain-append}
 use Rattle.nbt_server.specs.Calls.{ServerStarts, limited}
 use Rattle.nbt_server.specs.Serving.{ServerValue}
 use Rattle.nbt_server.specs.Shifted.{shifted_server}
@@ -32,7 +32,7 @@ use Rattle.nbt_serve.specs.Runs.{Begins, CrashLeavesAnEarlierServer, Held, live_
 use Rattle.nbt_serve.specs.Serving.{Turn}
 use Rattle.nbt_port.specs.Memory.{DatagramValue}
 use Rattle.nbt_net.specs.Wire.{Act}
-use Rattle.nbt_net.specs.Servers.{ServerEnd, never_up, up, down, act_at, ServerLives, starts, starts_anew, resumes, has_limit}
+use Rattle.nbt_net.specs.Servers.{ServerEnd, never_up, up, down, act_at, with_rows, ServerLives, starts, starts_anew, has_limit}
 use Rattle.nbt_net.specs.Restarts.{later_act}
 use Rattle.nbt_net.specs.Starts.{FindsLeft, HasNotGoneBack, ResumesLater}
 use Rattle.nbt_net.specs.Turns.{acts_before, IsCutShort}
@@ -40,6 +40,7 @@ use Rattle.nbt_net.specs.Again.{kept_of, held_of, HasOwnHeader, StartBeginsARun,
 use Rattle.nbt_net.proofs.Onwards.{serves_soon}
 use Rattle.nbt_net.proofs.ServerTurns.{cut_by}
 use Rattle.nbt_net.proofs.Restarts.{ServerAlike, all_later}
+use Rattle.nbt_net.proofs.Rows.{starts_as, then_rows, resumes_with}
 use Rattle.nbt_net.proofs.Started.{KeptResumes, FileHasOneReading, ServesPast, begins_later, begun_config}
 
 abbrev WrittenIsKept : Type 0
@@ -153,13 +154,14 @@ start_begins_a_run law f b rows begins = let well = begun_well f b begins in (be
 
 module _ (law : WrittenIsKept) (config : ConfigValue) where
   -- from a server that is down, or never was up
-  under_way : (f : Found) (b : Begun) (rows : Option ℕ) (acts : List Act) (before : ServerEnd) → BeginsAs f b → b.server.table.config ≡ config → Chain (ServerLives config) never_up acts before
-      → (mid : ServerValue) → limited rows mid ≡ limited rows b.server → ServerLives config before (act_at b.server.last) (up mid) → IsUnderWay config (acts ++ acts_of_start b) (kept_of b) b.header.last (held_of rows b)
-  under_way f b rows acts before begins limits so_far mid same begun = record {
+  under_way : (f : Found) (b : Begun) (rows : Option ℕ) (acts : List Act) (before : ServerEnd) → BeginsAs f b → f.config.life ≡ config.life → f.config.longest ≡ config.longest → Chain (ServerLives config) never_up acts before
+      → (clients : Option ℕ) → Chain (ServerLives config) before (act_at b.server.last ∷ act_at b.server.last ∷ []) (up (limited clients b.server)) → IsUnderWay config (acts ++ acts_of_start b) (kept_of b) b.header.last (held_of rows b)
+  under_way f b rows acts before begins life longest so_far clients begun = record {
     lives = chain-append (ServerLives config) never_up before (up (limited rows b.server)) acts (acts_of_start b) so_far
-        (up mid, begun, (up (limited rows mid), has_limit b.server.last rows mid, sym (ap up same)));
+        (chain_on (ServerLives config) before (up (limited clients b.server)) (up (limited rows b.server)) (act_at b.server.last ∷ act_at b.server.last ∷ []) (act_at b.server.last) begun (has_limit b.server.last rows (limited clients b.server)));
     begins = begins_run law b rows (begun_well f b begins);
-    config_is = limits;
+    life_is = ap (λ (c : ConfigValue). c.life) (begun_config f b begins) ∙ life;
+    longest_is = ap (λ (c : ConfigValue). c.longest) (begun_config f b begins) ∙ longest;
   }
 
 anew : {f : Found} {b : Begun} {reason : Reason} → BeginsAs f b → b.reason ≡ Some reason → BeginsAnew f reason b
@@ -169,13 +171,15 @@ anew {f} {b} {reason} begins is = by begins.0 begins.2
     by (Goes going) g = let none = g.no_reason in absurd cc
     by (Silent other) g = let own = g.reason_is in let same : other ≡ reason = cc in subst (λ (r : Reason). BeginsAnew f r b) same g
 
-started_so : (config : ConfigValue) (f : Found) (b : Begun) (reason : Reason) → f.config ≡ config → BeginsAnew f reason b → ServerStarts config b.server.last b.server
-started_so config f b reason is g = subst (λ (c : ConfigValue). ServerStarts c b.server.last b.server) is (subst (λ (n : ℕ). ServerStarts f.config n b.server) (sym g.starts.last) g.starts)
+started_so : (config : ConfigValue) (f : Found) (b : Begun) (reason : Reason) → f.config.life ≡ config.life → f.config.longest ≡ config.longest → BeginsAnew f reason b → ServerStarts config b.server.last (with_rows config.rows b.server)
+started_so config f b reason life longest g = starts_as config f.config b.server.last b.server life longest (subst (λ (n : ℕ). ServerStarts f.config n b.server) (sym g.starts.last) g.starts)
 
 pub first_start : WrittenIsKept → FirstStart
 first_start law config f b rows reason limits begins why =
-    let g = started_so config f b reason limits (anew begins why) in
-    under_way law config f b rows [] never_up begins g.config_is refl b.server refl (starts b.server.last b.server g)
+    let life = ap (λ (c : ConfigValue). c.life) limits in
+    let longest = ap (λ (c : ConfigValue). c.longest) limits in
+    under_way law config f b rows [] never_up begins life longest refl b.server.client_rows
+    (then_rows config b.server.last config.rows never_up b.server (starts b.server.last (with_rows config.rows b.server) (started_so config f b reason life longest (anew begins why))))
 
 -- the laws below, of a start
 pub record StartLaws : Type 0 where
@@ -197,17 +201,18 @@ module _ (l : StartLaws) (config : ConfigValue) (acts : List Act) (kept : Kept) 
   goes_on_again : (found : FindsLeft old.server until left f) → b.reason ≡ None → HasNotGoneBack found cut.earlier.server b
       → (later : ResumesLater cut.earlier.server until left f b) × IsUnderWay config (map (later_act later.shift) so_far ++ acts_of_start b) (kept_of b) b.header.last (held_of rows b)
   goes_on_again found none steady =
-      let later = begins_later l.resumes l.one l.past l.alike.tells old.server turns gone until left (subst IsConfig (sym way.config_is) limits) f b found cut.earlier steady begins.0 begins.1 begins.2 none in (
+      let later = begins_later l.resumes l.one l.past l.alike.tells old.server turns gone until left (subst IsLongest (sym way.longest_is) limits.longest) f b found cut.earlier steady begins.0 begins.1 begins.2 none in (
         later,
-        under_way l.written config f b rows (map (later_act later.shift) so_far) (down (shifted_server later.shift cut.earlier.server)) begins (begun_config f b begins ∙ (found.config_is ∙ way.config_is))
-            (all_later l.alike config later.shift so_far never_up (down cut.earlier.server) lived_so_far) (limited cut.earlier.server.client_rows b.server) refl
-            (resumes b.server.last (shifted_server later.shift cut.earlier.server) (limited cut.earlier.server.client_rows b.server) later.resumes),
+        under_way l.written config f b rows (map (later_act later.shift) so_far) (down (shifted_server later.shift cut.earlier.server)) begins (found.life_is ∙ way.life_is) (found.longest_is ∙ way.longest_is)
+            (all_later l.alike config later.shift so_far never_up (down cut.earlier.server) lived_so_far) cut.earlier.server.client_rows
+            (resumes_with config b.server.last f.config.rows (shifted_server later.shift cut.earlier.server) (limited cut.earlier.server.client_rows b.server) later.resumes),
       )
 
-  begins_anew : (reason : Reason) → f.config ≡ config → b.reason ≡ Some reason → IsUnderWay config (so_far ++ acts_of_start b) (kept_of b) b.header.last (held_of rows b)
-  begins_anew reason is why =
-      let g = started_so config f b reason is (anew begins why) in
-      under_way l.written config f b rows so_far (down cut.earlier.server) begins g.config_is lived_so_far b.server refl (starts_anew b.server.last cut.earlier.server b.server g)
+  begins_anew : (reason : Reason) → f.config.life ≡ config.life → f.config.longest ≡ config.longest → b.reason ≡ Some reason → IsUnderWay config (so_far ++ acts_of_start b) (kept_of b) b.header.last (held_of rows b)
+  begins_anew reason life longest why =
+      under_way l.written config f b rows so_far (down cut.earlier.server) begins life longest lived_so_far b.server.client_rows
+      (then_rows config b.server.last config.rows (down cut.earlier.server) b.server
+      (starts_anew b.server.last cut.earlier.server (with_rows config.rows b.server) (started_so config f b reason life longest (anew begins why))))
 
 pub next_start : StartLaws → NextStart
 next_start l config acts kept last old new seen way runs limits before behind left calls_are may =

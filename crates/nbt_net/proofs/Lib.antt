@@ -4,6 +4,8 @@
 mod Later
 -- by which clock a server goes on, and the last time of a file
 mod Onwards
+-- a server that begins with another number of rows
+mod Rows
 -- a start that goes on with what a crash left
 pub mod Started
 -- one end of a world changes, and what was sent of it

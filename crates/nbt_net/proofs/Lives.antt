@@ -24,10 +24,10 @@ use Rattle.nbt_world.specs.Inner.Handing.{Origin}
 use Rattle.nbt_world.specs.Inner.Kept.{Invariant}
 use Rattle.nbt_world.proofs.Keeping.{addr_with, node_with_other, node_with_here, server_addr_with}
 use Rattle.nbt_net.specs.Wire.{Act, Happening, clocks_go_on, acts, acts_of, sent_by, Comes, of_an_end, of_no_end, of_another_program, AllMayCome, WireStep, time_passes, end_acts, WireRun, ends as run_ends, goes_on as run_goes_on}
-use Rattle.nbt_net.specs.Servers.{ServerEnd, never_up, up_of, was_of, ServerLives}
+use Rattle.nbt_net.specs.Servers.{ServerEnd, never_up, up_of, was_of, with_rows, ServerLives}
 use Rattle.nbt_net.specs.Hosts.{HostLives}
 use Rattle.nbt_net.specs.Lives.{Network, NoTwoHold, NetworkIsARun}
-use Rattle.nbt_net.specs.Reaching.{Goes, by_event, by_taking, by_id, by_doubt, by_limit, Reaches, stays, goes_on, with_end, AreSentOrMoveNone}
+use Rattle.nbt_net.specs.Reaching.{Goes, by_event, by_taking, by_id, by_doubt, by_limit, by_rows, Reaches, stays, goes_on, with_end, AreSentOrMoveNone}
 use Rattle.nbt_net.proofs.Ends.{once, reaches_on, same_sent, both_send}
 use Rattle.nbt_net.proofs.ServerActs.{servers_act}
 use Rattle.nbt_net.proofs.HostActs.{StepKept, hosts_act}
@@ -42,6 +42,7 @@ pub record WorldLaws : Type 0 where
   pub refresh : (world : WorldValue) (index : ℕ) (node : NodeValue) (name : NameValue) → Invariant world → node_of world.ends (suc index) ≡ Some node
       → Invariant (record world { ends = with_node world.ends (suc index) (Some (refreshing_soon node name)) })
   pub limits : (world : WorldValue) (server : ServerValue) (rows : Option ℕ) → Invariant world → world.ends.server ≡ Some server → Invariant (record world { ends = with_server world.ends (Some (limited rows server)) world.ends.crashed })
+  pub rows : (world : WorldValue) (server : ServerValue) (rows : ℕ) → Invariant world → world.ends.server ≡ Some server → Invariant (record world { ends = with_server world.ends (Some (with_rows rows server)) world.ends.crashed })
 
 goes_kept : WorldLaws → {old new : WorldValue} → Invariant old → Goes old new → Invariant new
 goes_kept l {old} kept (by_event event outcome new step) = l.step old new event outcome kept step
@@ -49,6 +50,7 @@ goes_kept l {old} kept (by_taking number from to octets taken ends at origin doe
 goes_kept l {old} kept (by_id index id node up) = l.ids old index id node kept up
 goes_kept l {old} kept (by_doubt index node name up) = l.refresh old index node name kept up
 goes_kept l {old} kept (by_limit rows server up) = l.limits old server rows kept up
+goes_kept l {old} kept (by_rows rows server up) = l.rows old server rows kept up
 
 pub reaches_kept : WorldLaws → {old new : WorldValue} → Invariant old → Reaches old new → Invariant new
 reaches_kept l kept (stays world) = kept

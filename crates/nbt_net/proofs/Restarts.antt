@@ -2,16 +2,17 @@
 use Rattle.std.proofs.Common.{ℕ, ◌+◌, List, [], ◌∷◌, ◌++◌, map, Some, None, sym, ap, ◌∙◌, arith}
 use Rattle.nbt_lease.specs.Config.{ConfigValue}
 use Rattle.nbt_port.specs.PortCalls.{Chain}
-use Rattle.nbt_port.proofs.Chains.{chain_on, chain-append}
+use Rattle.nbt_port.proofs.Chains.{chain-append}
 use Rattle.nbt_server.specs.Serving.{ServerValue}
 use Rattle.nbt_server.specs.Calls.{ServerResumes, limited}
 use Rattle.nbt_server.specs.Shifted.{shifted_server, shifted_leases, TellsAlike, DoesAlike, StartsAlike}
 use Rattle.nbt_serve.specs.Serving.{Turn, is_empty, is_taken, is_lost, Turns, passes, takes, goes_back, has_no_memory, acts_in as calls_in, moments_in, Failure, of_receive, of_send, acts_of as calls_of, moments_of, Fails}
 use Rattle.nbt_net.specs.Wire.{Act}
-use Rattle.nbt_net.specs.Servers.{ServerEnd, never_up, up, down, act_at, AreReadAt, ServerLives, starts, starts_anew, resumes, has_limit, takes_turn, breaks_turn, crashes}
+use Rattle.nbt_net.specs.Servers.{ServerEnd, never_up, up, down, act_at, AreReadAt, ServerLives, starts, starts_anew, resumes, has_limit, has_rows, takes_turn, breaks_turn, crashes}
 use Rattle.nbt_net.specs.Restarts.{later_act, later_end, LivesLater, RestartGoesOn}
 use Rattle.nbt_net.specs.Starts.{StartResumesAnEarlierServer}
 use Rattle.nbt_net.specs.Turns.{acts_before}
+use Rattle.nbt_net.proofs.Rows.{resumes_with}
 use Rattle.nbt_net.proofs.ServerTurns.{cut_by}
 
 pub record ServerAlike : Type 0 where
@@ -61,6 +62,7 @@ module _ (law : ServerAlike) (config : ConfigValue) (more : ℕ) where
   later (starts_anew now was server is) = starts_anew (now + more) (shifted_server more was) (shifted_server more server) (law.start more config now server is)
   later (resumes now was server is) = resumes (now + more) (shifted_server more was) (shifted_server more server) (resumes_alike is)
   later (has_limit now rows server) = has_limit (now + more) rows (shifted_server more server)
+  later (has_rows now rows server) = has_rows (now + more) rows (shifted_server more server)
   later (takes_turn now turn old new read does) = turn_later now read does
   later (breaks_turn now failure old new read fails) = broken_later old new now failure read fails
   later (crashes now server) = crashes (now + more) (shifted_server more server)
@@ -80,8 +82,8 @@ restart_goes_on law start config kept last old new seen begins runs limits befor
       λ steady.
           let r = s.1 steady in (
             r,
-            chain_on (ServerLives config) never_up (later_end r.shift (down s.0.server)) (up (limited s.0.server.client_rows b.server)) (map (later_act r.shift) (acts ++ (acts_before s.0 ++ act_at at ∷ []))) (act_at b.server.last)
+            chain-append (ServerLives config) never_up (later_end r.shift (down s.0.server)) (up (limited s.0.server.client_rows b.server)) (map (later_act r.shift) (acts ++ (acts_before s.0 ++ act_at at ∷ []))) (act_at b.server.last ∷ act_at b.server.last ∷ [])
                 (all_later law config r.shift (acts ++ (acts_before s.0 ++ act_at at ∷ [])) never_up (down s.0.server) (chain-append (ServerLives config) never_up (up old.server) (down s.0.server) acts (acts_before s.0 ++ act_at at ∷ []) so_far ((cut_by config old.server s.0).lives at)))
-                (resumes b.server.last (shifted_server r.shift s.0.server) (limited s.0.server.client_rows b.server) r.resumes),
+                (resumes_with config b.server.last f.config.rows (shifted_server r.shift s.0.server) (limited s.0.server.client_rows b.server) r.resumes),
           ),
     )

@@ -15,8 +15,8 @@ use Rattle.nbt_world.specs.Drift.{reading}
 use Rattle.nbt_world.specs.World.{WorldValue, with_server}
 use Rattle.nbt_world.specs.Step.{TakenValue, is_lost as lost, takes as takes_it, server_takes, server_forgets, by_server, EndTakes, after_taking, starts as start_is_step, server_starts, crashes as crash_is_step, server_crashes, resumes as resume_is_step, server_resumes}
 use Rattle.nbt_net.specs.Wire.{Act, sent_by, AllMayCome}
-use Rattle.nbt_net.specs.Servers.{ServerEnd, never_up, up, down, up_of, was_of, AreReadAt, ServerLives, starts, starts_anew, resumes, has_limit, takes_turn, breaks_turn, crashes}
-use Rattle.nbt_net.specs.Reaching.{by_event, by_taking, by_limit, Reaches, stays, with_end, ServersActIsARun}
+use Rattle.nbt_net.specs.Servers.{ServerEnd, never_up, up, down, up_of, was_of, AreReadAt, with_rows, ServerLives, starts, starts_anew, resumes, has_limit, has_rows, takes_turn, breaks_turn, crashes}
+use Rattle.nbt_net.specs.Reaching.{by_event, by_taking, by_limit, by_rows, Reaches, stays, with_end, ServersActIsARun}
 use Rattle.nbt_net.proofs.Ends.{once, origin_of, quietly}
 
 -- the world after an act of the server
@@ -84,6 +84,8 @@ module _ (w : WorldValue) where
       quietly _ (by_event event.Resume outcome.Done _ (resume_is_step _ (server_resumes was server (server_is w (down was) is) (was_is w (down was) is) (subst (λ (n : ℕ). ServerResumes was n server) at new))))
   acted is (has_limit now rows server) at comes =
       subst (λ (c : Option ServerValue). Reaches w (record w { ends = with_server w.ends (Some (limited rows server)) c; sent = w.sent ++ [] })) (was_is w (up server) is) (quietly _ (by_limit rows server (server_is w (up server) is)))
+  acted is (has_rows now rows server) at comes =
+      subst (λ (c : Option ServerValue). Reaches w (record w { ends = with_server w.ends (Some (with_rows rows server)) c; sent = w.sent ++ [] })) (was_is w (up server) is) (quietly _ (by_rows rows server (server_is w (up server) is)))
   acted is (takes_turn now t old new read does) at comes = turn w old is at read does comes
   acted is (breaks_turn now failure old new read fails) at comes = broken w old is failure at read fails comes
   acted is (crashes now server) at comes = quietly _ (by_event (event.Crash 0) outcome.Done _ (crash_is_step 0 _ (server_crashes server (server_is w (up server) is))))

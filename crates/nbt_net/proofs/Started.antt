@@ -1,7 +1,7 @@
 -- A start that goes on with what a crash left.
 use Rattle.std.proofs.Common.{◌≡◌, ◌∙◌, ℕ, ◌+◌, ◌-◌, ◌≤◌, List, [], ◌∷◌, map, None, Ok, refl, sym, ap, subst, arith, ◌++◌}
 use Rattle.std.specs.Borrow.{Bor}
-use Rattle.nbt_lease.specs.Config.{ConfigValue, IsConfig, last_moment}
+use Rattle.nbt_lease.specs.Config.{ConfigValue, IsLongest, last_moment}
 use Rattle.nbt_lease.specs.Lease.{Leases, Rows, is_live, leases_at, latest_end, IsSound}
 use Rattle.nbt_lease.specs.declared.lease.Lease.{Lease}
 use Rattle.nbt_lease.proofs.Common.{filter, AllByRecursion, NameValue}
@@ -32,9 +32,11 @@ use Rattle.nbt_store.specs.declared.resuming.Decided.{Decided}
 use Rattle.nbt_store.specs.declared.resuming.Decided.TheVariants.{Goes, Silent}
 use Rattle.nbt_store.specs.declared.resuming.Found.{Found}
 use Rattle.nbt_store.specs.declared.resuming.Going.{Going}
+use Rattle.nbt_net.specs.Servers.{with_rows}
 use Rattle.nbt_net.specs.Starts.{FindsLeft, HasNotGoneBack, ResumesLater, StartResumesAnEarlierServer}
 use Rattle.nbt_net.proofs.Later.{apart_later, later_lease, live_later, none_capped, rows_capped}
 use Rattle.nbt_net.proofs.Onwards.{is_clock, times_last}
+use Rattle.nbt_net.proofs.Rows.{same_but_rows}
 
 -- ---- the laws below
 
@@ -68,12 +70,13 @@ turns_keep (turn ∷ turns) old new run =
 
 -- ---- a server that resumes with rows whose leases end later
 
-resumes_later : KeptResumes → ShiftedTells → (was server : ServerValue) (kept : Leases) (rows : Rows) (config : ConfigValue) (start last by m : ℕ) → IsKept kept was → AreRowsOf rows kept → config ≡ was.table.config → start ≡ was.start → IsConfig config
+resumes_later : KeptResumes → ShiftedTells → (was server : ServerValue) (kept : Leases) (rows : Rows) (config : ConfigValue) (start last by m : ℕ) → IsKept kept was → AreRowsOf rows kept → config.life ≡ was.table.config.life → config.longest ≡ was.table.config.longest → start ≡ was.start → IsLongest config.longest
     → was.last + by ≤ m + by → m + by ≤ last_moment → ServerResumes (kept_server config (start + by) last (later_rows by rows)) (m + by) server → IsSound config (m + by) (leases_at (m + by) (later_rows by rows))
-    → ServerResumes (shifted_server by was) (m + by) (limited was.client_rows server)
-resumes_later law alike was server kept rows config start last by m k rows_are same begun limits onward told resumes sound = law (shifted_server by was) server (shifted_leases by kept) (later_rows by rows) last (m + by) kept_later onward named resumes_so
+    → ServerResumes (with_rows config.rows (shifted_server by was)) (m + by) (limited was.client_rows server)
+resumes_later law alike was server kept rows config start last by m k rows_are life same begun limits onward told resumes sound =
+    law (with_rows config.rows (shifted_server by was)) server (shifted_leases by kept) (later_rows by rows) last (m + by) kept_later onward named resumes_so
   where
-    kept_later : IsKept (shifted_leases by kept) (shifted_server by was)
+    kept_later : IsKept (shifted_leases by kept) (with_rows config.rows (shifted_server by was))
     kept_later = record {
       apart = λ name. apart_later by (kept name) (k.apart name);
       live = λ name. live_later by was.last (kept name) ∙ ap (map (shifted_lease by)) (k.live name) ∙ sym (ap (λ (f : Leases). f name) (alike by was was.last).leases);
@@ -83,12 +86,16 @@ resumes_later law alike was server kept rows config start last by m k rows_are s
     named name =
         let capped : leases_at (m + by) (later_rows by rows) name ≡ map (later_lease by) (filter (is_live m) (kept name)) = rows_capped by m rows name (omega (arith, told)) ∙ ap (map (later_lease by)) (rows_are m name) in
         let in_time = subst (λ (ls : List Lease). AllByRecursion (λ lease. lease.end ≤ latest_end config (m + by)) ls) capped (sound name).in_time in
-        let longest = limits.longest.1 in
+        let longest = limits.1 in
         capped ∙ none_capped by (latest_end config (m + by)) (filter (is_live m) (kept name)) (omega (arith, told, longest)) in_time ∙ sym (live_later by m (kept name))
 
-    resumes_so : ServerResumes (kept_server was.table.config (was.start + by) last (later_rows by rows)) (m + by) server
+    -- the limits of what was found, which has its own rows
+    limits_are : config ≡ record was.table.config { rows = config.rows }
+    limits_are = sym (same_but_rows was.table.config config (sym life) (sym same))
+
+    resumes_so : ServerResumes (kept_server (record was.table.config { rows = config.rows }) (was.start + by) last (later_rows by rows)) (m + by) server
     resumes_so =
-        subst (λ (x : ConfigValue). ServerResumes (kept_server x (was.start + by) last (later_rows by rows)) (m + by) server) same (subst (λ (n : ℕ). ServerResumes (kept_server config (n + by) last (later_rows by rows)) (m + by) server) begun resumes)
+        subst (λ (x : ConfigValue). ServerResumes (kept_server x (was.start + by) last (later_rows by rows)) (m + by) server) limits_are (subst (λ (n : ℕ). ServerResumes (kept_server config (n + by) last (later_rows by rows)) (m + by) server) begun resumes)
 
 -- ---- what was decided
 
@@ -163,7 +170,7 @@ loads_left one ran last left f found _ going (with_file octets form h t rows dec
 
 -- ---- the server that begins
 
-module _ (kept_resumes : KeptResumes) (one : FileHasOneReading) (serves_past : ServesPast) (alike : ShiftedTells) (ran : ServerValue) (turns : List Turn) (gone : List DatagramValue) (last : ℕ) (left : List Change) (limits : IsConfig ran.table.config)
+module _ (kept_resumes : KeptResumes) (one : FileHasOneReading) (serves_past : ServesPast) (alike : ShiftedTells) (ran : ServerValue) (turns : List Turn) (gone : List DatagramValue) (last : ℕ) (left : List Change) (limits : IsLongest ran.table.config.longest)
     (f : Found) (b : Begun) (found : FindsLeft ran last left f) (e : IsEarlier ran turns gone last left) (steady : HasNotGoneBack found e.server b) where
   goes_later : (going : Going) → GoesOn f going b → LoadsLeft f found.header left going → ResumesLater e.server last left f b
   goes_later going g loads =
@@ -183,7 +190,8 @@ module _ (kept_resumes : KeptResumes) (one : FileHasOneReading) (serves_past : S
       let told = clock.0.told in
       let same = turns_keep (e.front ++ e.asked) ran e.server e.run in
       let resumed =
-      resumes_later kept_resumes alike e.server going.server (after_all left no_leases) loads.rows f.config h.start (t.last + o.shift) o.shift m e.leases loads.rows_are (found.config_is ∙ sym same.1) (found.start_is ∙ sym same.0) (subst IsConfig (sym found.config_is) limits)
+      resumes_later kept_resumes alike e.server going.server (after_all left no_leases) loads.rows f.config h.start (t.last + o.shift) o.shift m e.leases loads.rows_are (found.life_is ∙ sym (ap (λ (c : ConfigValue). c.life) same.1)) (found.longest_is ∙ sym (ap (λ (c : ConfigValue). c.longest) same.1))
+      (found.start_is ∙ sym same.0) (subst IsLongest (sym found.longest_is) limits)
       (omega (arith, past, whole)) (omega (arith, told, whole))
       (subst (λ (n : ℕ). ServerResumes (kept_server f.config (h.start + o.shift) (t.last + o.shift) (later_rows o.shift loads.rows)) n going.server) (sym whole) loads.goes.resumes)
       (subst (λ (n : ℕ). IsSound f.config n (leases_at n (later_rows o.shift loads.rows))) (sym whole) loads.goes.sound) in
@@ -191,8 +199,8 @@ module _ (kept_resumes : KeptResumes) (one : FileHasOneReading) (serves_past : S
       let late = clock.0.serves in
       record {
         shift = o.shift;
-        resumes = subst (λ (s : ServerValue). ServerResumes (shifted_server o.shift e.server) b.server.last (limited e.server.client_rows s)) (sym g.server_is)
-            (subst (λ (n : ℕ). ServerResumes (shifted_server o.shift e.server) n (limited e.server.client_rows going.server)) (whole ∙ sym serves) resumed);
+        resumes = subst (λ (s : ServerValue). ServerResumes (with_rows f.config.rows (shifted_server o.shift e.server)) b.server.last (limited e.server.client_rows s)) (sym g.server_is)
+            (subst (λ (n : ℕ). ServerResumes (with_rows f.config.rows (shifted_server o.shift e.server)) n (limited e.server.client_rows going.server)) (whole ∙ sym serves) resumed);
         onward = omega (arith, later, until, reads);
         machine = reads ∙ clock.0.machine ∙ ap (λ (n : ℕ). f.seen.monotonic + n) (sym loads.goes.ahead ∙ sym (ap (λ (x : Header). x.ahead) g.header_is));
         serves = omega (arith, late, reads, serves);
@@ -205,4 +213,4 @@ module _ (kept_resumes : KeptResumes) (one : FileHasOneReading) (serves_past : S
 pub started : CrashLeavesAnEarlierServer → KeptResumes → FileHasOneReading → ServesPast → ShiftedTells → StartResumesAnEarlierServer
 started crash kept_resumes one serves_past alike kept last old new seen begins runs limits before behind left split may f b found begun none =
     let e = crash kept last old new seen begins runs before behind left split may in
-    (e, λ steady. begins_later kept_resumes one serves_past alike old.server (turns_in seen) (gone_in before) (last_left last may) left limits f b found e steady begun.0 begun.1 begun.2 none)
+    (e, λ steady. begins_later kept_resumes one serves_past alike old.server (turns_in seen) (gone_in before) (last_left last may) left limits.longest f b found e steady begun.0 begun.1 begun.2 none)

@@ -38,22 +38,23 @@ pub record HasOwnHeader (b : Begun) : Type 0 where
 abbrev pub StartBeginsARun : Type 0
 StartBeginsARun = (f : Found) (b : Begun) (rows : Option ℕ) → BeginsAs f b → Begins (kept_of b) b.header.last (held_of rows b) × HasOwnHeader b
 
--- A server lived by these acts up to now, and a run begins with it.
+-- A server lived by these acts up to now, and a run begins with it. It has the life and the longest lease of these limits.
 pub record IsUnderWay (config : ConfigValue) (acts : List Act) (kept : Kept) (last : ℕ) (held : Held) : Type 0 where
   pub lives : Chain (ServerLives config) never_up acts (up held.server)
   pub begins : Begins kept last held
-  pub config_is : held.server.table.config ≡ config
+  pub life_is : held.server.table.config.life ≡ config.life
+  pub longest_is : held.server.table.config.longest ≡ config.longest
 
--- the acts of a start
+-- the acts of a start: the server starts or resumes, has its number of rows, and has its limit of clients
 abbrev pub acts_of_start : Begun → List Act
-acts_of_start b = act_at b.server.last ∷ act_at b.server.last ∷ []
+acts_of_start b = act_at b.server.last ∷ act_at b.server.last ∷ act_at b.server.last ∷ []
 
 -- So is a server that begins anew, the first time
 abbrev pub FirstStart : Type 0
 FirstStart = (config : ConfigValue) (f : Found) (b : Begun) (rows : Option ℕ) (reason : Reason) → f.config ≡ config → BeginsAs f b → b.reason ≡ Some reason → IsUnderWay config (acts_of_start b) (kept_of b) b.header.last (held_of rows b)
 
 -- and one that ran, crashed at or within any call of its devices, and began again: it goes on with what the crash left, or begins anew.
--- Where it goes on, all that it lived so far counts as later by one shift.
+-- Where it goes on, all that it lived so far counts as later by one shift. It may have another number of rows than before.
 abbrev pub NextStart : Type 0
 NextStart = (config : ConfigValue) (acts : List Act) (kept : Kept) (last : ℕ) (old new : Held) (seen : List Seen) → IsUnderWay config acts kept last old → Runs old seen new → IsConfig config
     → (before behind : List DeviceCall) (left : List Change) → calls_in seen ≡ before ++ behind → (may : MayLeaveAfter kept (stored_in before) left)
@@ -61,4 +62,4 @@ NextStart = (config : ConfigValue) (acts : List Act) (kept : Kept) (last : ℕ) 
     × ((at : ℕ) (f : Found) (b : Begun) (rows : Option ℕ) → BeginsAs f b
     → ((found : FindsLeft old.server (last_left last may) left f) → b.reason ≡ None → HasNotGoneBack found cut.earlier.server b → (later : ResumesLater cut.earlier.server (last_left last may) left f b)
     × IsUnderWay config (map (later_act later.shift) (acts ++ (acts_before cut.earlier ++ act_at at ∷ [])) ++ acts_of_start b) (kept_of b) b.header.last (held_of rows b))
-    × ((reason : Reason) → f.config ≡ config → b.reason ≡ Some reason → IsUnderWay config ((acts ++ (acts_before cut.earlier ++ act_at at ∷ [])) ++ acts_of_start b) (kept_of b) b.header.last (held_of rows b)))
+    × ((reason : Reason) → f.config.life ≡ config.life → f.config.longest ≡ config.longest → b.reason ≡ Some reason → IsUnderWay config ((acts ++ (acts_before cut.earlier ++ act_at at ∷ [])) ++ acts_of_start b) (kept_of b) b.header.last (held_of rows b)))

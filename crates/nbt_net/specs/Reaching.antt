@@ -16,11 +16,11 @@ use Rattle.nbt_world.specs.Step.{Step, SpellMove, TakenValue, EndTakes, after_ta
 use Rattle.nbt_world.specs.Inner.Handing.{Origin}
 use Rattle.nbt_world.specs.Inner.Kept.{Invariant}
 use Rattle.nbt_net.specs.Wire.{Act, sent_by, AllMayCome}
-use Rattle.nbt_net.specs.Servers.{ServerEnd, up_of, was_of, ServerLives}
+use Rattle.nbt_net.specs.Servers.{ServerEnd, up_of, was_of, with_rows, ServerLives}
 use Rattle.nbt_net.specs.Hosts.{HostLives}
 
 -- An event; an end takes what may come to it, as at a delivery; a node counts its ids from another one, or has a refresh due before its
--- time; or the server has another limit for its clients.
+-- time; or the server has another limit for its clients, or may have another number of leases.
 pub data Goes (old : WorldValue) : WorldValue → Type 0 where
   by_event : (event : Event) (outcome : Outcome) (new : WorldValue) → Step old event outcome new → Goes old new
   by_taking : (number : ℕ) (from to : Addr) (octets : List ℕ) (taken : TakenValue) (ends : Ends) → addr_of old.ends number ≡ Some to → Origin old from to octets → EndTakes (reading old.now number) old.ends from octets number taken ends
@@ -28,6 +28,7 @@ pub data Goes (old : WorldValue) : WorldValue → Type 0 where
   by_id : (index id : ℕ) (node : NodeValue) → node_of old.ends (suc index) ≡ Some node → Goes old (record old { ends = with_node old.ends (suc index) (Some (record node { next_id = id })) })
   by_doubt : (index : ℕ) (node : NodeValue) (name : NameValue) → node_of old.ends (suc index) ≡ Some node → Goes old (record old { ends = with_node old.ends (suc index) (Some (refreshing_soon node name)) })
   by_limit : (rows : Option ℕ) (server : ServerValue) → old.ends.server ≡ Some server → Goes old (record old { ends = with_server old.ends (Some (limited rows server)) old.ends.crashed })
+  by_rows : (rows : ℕ) (server : ServerValue) → old.ends.server ≡ Some server → Goes old (record old { ends = with_server old.ends (Some (with_rows rows server)) old.ends.crashed })
 
 -- any number of these
 pub data Reaches : WorldValue → WorldValue → Type 0 where

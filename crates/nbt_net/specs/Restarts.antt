@@ -34,8 +34,8 @@ abbrev pub LivesLater : Type 0
 LivesLater = (config : ConfigValue) (more : ℕ) (old new : ServerEnd) (acts : List Act) → Chain (ServerLives config) old acts new → Chain (ServerLives config) (later_end more old) (map (later_act more) acts) (later_end more new)
 
 -- A server that keeps its leases lived so far; it ran, and crashed at some time; and a start found what that left, and went on. Then the
--- life goes on with the server that begins, by the clock of that start: all of it so far counts as later by one shift, and what the crash cut
--- off is no part of it.
+-- life goes on with the server that begins, by the clock of that start: it resumes, and has as many rows as the start. All of the life so
+-- far counts as later by one shift, and what the crash cut off is no part of it.
 abbrev pub RestartGoesOn : Type 0
 RestartGoesOn = (config : ConfigValue) (kept : Kept) (last : ℕ) (old new : Held) (seen : List Seen) → Begins kept last old → Runs old seen new → IsConfig old.server.table.config
     → (before behind : List DeviceCall) (left : List Change) → all_calls_in seen ≡ before ++ behind → (may : MayLeaveAfter kept (stored_in before) left)
@@ -43,7 +43,7 @@ RestartGoesOn = (config : ConfigValue) (kept : Kept) (last : ℕ) (old new : Hel
     → (at : ℕ) (acts : List Act) → Chain (ServerLives config) never_up acts (up old.server)
     → (cut : IsCutShort config old.server (turns_in seen) (gone_in before) (last_left last may) left)
     × (HasNotGoneBack found cut.earlier.server b → (later : ResumesLater cut.earlier.server (last_left last may) left f b)
-    × Chain (ServerLives config) never_up (map (later_act later.shift) (acts ++ (acts_before cut.earlier ++ act_at at ∷ [])) ++ act_at b.server.last ∷ []) (up (limited cut.earlier.server.client_rows b.server)))
+    × Chain (ServerLives config) never_up (map (later_act later.shift) (acts ++ (acts_before cut.earlier ++ act_at at ∷ [])) ++ act_at b.server.last ∷ act_at b.server.last ∷ []) (up (limited cut.earlier.server.client_rows b.server)))
 
 -- By such a clock a host lives the same life. So each life of it, from a start on, may be judged by a clock of its own.
 abbrev pub HostsLiveLater : Type 0

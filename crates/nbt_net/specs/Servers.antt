@@ -32,13 +32,19 @@ act_at now = record { now = now; calls = [] }
 abbrev pub AreReadAt : (now : ℕ) → (moments : List ℕ) → Type 0
 AreReadAt now moments = AllByRecursion (λ moment. moment ≡ now) moments
 
--- A server starts and knows nothing; or it resumes, with the leases that it had. It has another limit for its clients, or none. It goes
--- through a turn, or the device fails in it; a reply is sent at its turn, or later, while it may still come, or never. And it crashes.
+-- the same server, whose table may have so many leases
+abbrev pub with_rows : (rows : ℕ) → ServerValue → ServerValue
+with_rows rows server = record server { table = record server.table { config = record server.table.config { rows = rows } } }
+
+-- A server starts and knows nothing; or it resumes, with the leases that it had. It has another limit for its clients, or none; or its
+-- table may have another number of leases. It goes through a turn, or the device fails in it; a reply is sent at its turn, or later, while
+-- it may still come, or never. And it crashes.
 pub data ServerLives (config : ConfigValue) : ServerEnd → Act → ServerEnd → Type 0 where
   starts : (now : ℕ) (server : ServerValue) → ServerStarts config now server → ServerLives config never_up (act_at now) (up server)
   starts_anew : (now : ℕ) (was server : ServerValue) → ServerStarts config now server → ServerLives config (down was) (act_at now) (up server)
   resumes : (now : ℕ) (was server : ServerValue) → ServerResumes was now server → ServerLives config (down was) (act_at now) (up server)
   has_limit : (now : ℕ) (rows : Option ℕ) (server : ServerValue) → ServerLives config (up server) (act_at now) (up (limited rows server))
+  has_rows : (now rows : ℕ) (server : ServerValue) → ServerLives config (up server) (act_at now) (up (with_rows rows server))
   takes_turn : (now : ℕ) (turn : Turn) (old new : ServerValue) → AreReadAt now (moments_in turn) → Turns old turn new → ServerLives config (up old) (record { now = now; calls = calls_in turn }) (up new)
   breaks_turn : (now : ℕ) (failure : Failure) (old new : ServerValue) → AreReadAt now (moments_of failure) → Fails old failure new → ServerLives config (up old) (record { now = now; calls = calls_of failure }) (up new)
   crashes : (now : ℕ) (server : ServerValue) → ServerLives config (up server) (act_at now) (down server)

@@ -18,9 +18,10 @@ use Rattle.nbt_serve.specs.Runs.{Begins, Held, IsEarlier, Runs, Seen, calls_in, 
 use Rattle.nbt_store.specs.Beginning.{BeginsAs}
 use Rattle.nbt_store.specs.declared.beginning.Begun.{Begun}
 use Rattle.nbt_store.specs.declared.resuming.Found.{Found}
+use Rattle.nbt_net.specs.Servers.{with_rows}
 
 -- What a start finds are octets that a crash left: a file of these changes, whose header has this last time, and the start of the server
--- that ran. It has the limits of that server.
+-- that ran. The start has that server's life and longest lease. It may have another number of leases.
 pub record FindsLeft (ran : ServerValue) (last : ℕ) (left : List Change) (f : Found) : Type 0 where
   pub octets : Bor (List ℕ)
   pub header : Header
@@ -29,19 +30,20 @@ pub record FindsLeft (ran : ServerValue) (last : ℕ) (left : List Change) (f : 
   pub file : IsFile octets.now Three header left end
   pub last_is : header.last ≡ last
   pub start_is : header.start ≡ ran.start
-  pub config_is : f.config ≡ ran.table.config
+  pub life_is : f.config.life ≡ ran.table.config.life
+  pub longest_is : f.config.longest ≡ ran.table.config.longest
 
 -- Where the clock of the file goes on, in its own boot, it hasn't gone back: the server serves from no earlier than the time of that
 -- server's last datagram, which is what the same clock read then.
 abbrev pub HasNotGoneBack : {ran : ServerValue} {last : ℕ} {left : List Change} {f : Found} → FindsLeft ran last left f → (was : ServerValue) → Begun → Type 0
 HasNotGoneBack {left = left} {f = f} found was b = IsTrue (is_same_clock found.header (times_after_all left (first_times found.header)) f.seen) → was.last ≤ b.server.last
 
--- The server that begins is that one, resumed with all of its times so much later. At the start its clock reads no less than the last time
--- of what was left, and it serves from no earlier than that on. That clock is the machine's, as much ahead as the header of its own file
--- says.
+-- The server that begins is that one, resumed with all of its times so much later, and with as many rows as the start has. At the start its
+-- clock reads no less than the last time of what was left, and it serves from no earlier than that on. That clock is the machine's, as much
+-- ahead as the header of its own file says.
 pub record ResumesLater (was : ServerValue) (last : ℕ) (left : List Change) (f : Found) (b : Begun) : Type 0 where
   pub shift : ℕ
-  pub resumes : ServerResumes (shifted_server shift was) b.server.last (limited was.client_rows b.server)
+  pub resumes : ServerResumes (with_rows f.config.rows (shifted_server shift was)) b.server.last (limited was.client_rows b.server)
   pub onward : last_of last left + shift ≤ b.reads
   pub machine : b.reads ≡ f.seen.monotonic + b.header.ahead
   pub serves : b.reads ≤ b.server.last

@@ -31,7 +31,7 @@ ghost use Rattle.nbt_net.specs.Hosts.{HostLives};
 ghost use Rattle.nbt_net.specs.Lives.{Network, NetworkIsARun, NoTwoHold};
 ghost use Rattle.nbt_net.specs.Reaching.{HostsActIsARun, ServersActIsARun};
 ghost use Rattle.nbt_net.specs.Restarts.{HostsLiveLater, LivesLater, RestartGoesOn};
-ghost use Rattle.nbt_net.specs.Servers.{ServerEnd, ServerLives};
+ghost use Rattle.nbt_net.specs.Servers.{ServerEnd, ServerLives, with_rows};
 ghost use Rattle.nbt_net.specs.Starts.{StartResumesAnEarlierServer};
 ghost use Rattle.nbt_net.specs.Turns.{BrokenTurnsAreLived, CrashCutsALifeShort, HostTurnsAreLived, HostsLiveOn, ServerRunsAreLived, ServerTurnsAreLived};
 ghost use Rattle.nbt_net.specs.Wire.{Happening};
@@ -114,7 +114,7 @@ pub fn a_host_lives_the_same_by_a_shifted_clock()
 }
 
 /// By such a clock a server lives the same life too. So its life goes on over a crash and a start that finds what it left, by the clock of that start, over any number of crashes: by that clock the
-/// server resumes with the leases that it had, and what the crash cut off is no part of its life.
+/// server resumes with the leases that it had, also where it may have another number of them, and what the crash cut off is no part of its life.
 pub fn a_life_goes_on_after_a_restart()
     ensures later { LivesLater }
     ensures restart { RestartGoesOn }
@@ -168,16 +168,16 @@ pub fn lives_are_safe()
 }
 
 /// A start that finds what a crash left of a run, and goes on, resumes an earlier server of that run, which knows of each reply that has
-/// left. All times of that server count as later by one constant; its live leases, its start and its limits are the same, and it serves
-/// from no earlier than any time at which it served before. So this start is the world's event of a server that resumes, where all times
-/// of the server's end count so.
+/// left. All times of that server count as later by one constant. Its live leases, its start, its limit of clients, its life and its longest
+/// lease are the same; it has as many rows as it was started with. It serves from no earlier than any time at which it served before. So this start
+/// is the world's event of a server that resumes, where all times of the server's end count so; only its number of rows is another one then.
 ///
 /// Where the clock of the file's own boot goes on, it is a premise that this clock reads no less than at the earlier server's last
 /// datagram. Over any other clock that is proved.
 pub fn a_start_resumes_an_earlier_server()
     ensures resumes { StartResumesAnEarlierServer }
-    ensures event { (shift : ℕ) (was server : ServerValue) (now : ℕ) (ends : Ends) → ServerResumes (shifted_server shift was) now server → ends.server ≡ None → ends.crashed ≡ Some was
-        → Resumes now (shifted_server_end shift ends) (with_server (shifted_server_end shift ends) (Some server) None) }
+    ensures event { (shift rows : ℕ) (was server : ServerValue) (now : ℕ) (ends : Ends) → ServerResumes (with_rows rows (shifted_server shift was)) now server → ends.server ≡ None → ends.crashed ≡ Some was
+        → Resumes now (shifted_server_end shift ends) (with_server (shifted_server_end shift ends) (Some (with_rows was.table.config.rows server)) None) }
 {
     nbt_serve::laws::a_crash_leaves_an_earlier_server();
     nbt_serve::laws::what_is_kept_resumes();

@@ -9,7 +9,8 @@ all c = record {
     takes = c.every_run_is_safe.ensures.takes;
     ids = c.ids_and_early_refreshes_keep_the_facts.ensures.ids;
     refresh = c.ids_and_early_refreshes_keep_the_facts.ensures.refresh;
-    limits = c.limits_keep_the_facts.ensures;
+    limits = c.limits_keep_the_facts.ensures.clients;
+    rows = c.limits_keep_the_facts.ensures.rows;
   };
   fresh = c.every_run_is_safe.ensures.fresh;
   safe = c.facts_of_every_world.ensures.safe;
