@@ -20,7 +20,7 @@ use Rattle.nbt_net.specs.Servers.{ServerEnd, up_of, was_of, with_rows, ServerLiv
 use Rattle.nbt_net.specs.Hosts.{HostLives}
 
 -- An event; an end takes what may come to it, as at a delivery; a node counts its ids from another one, or has a refresh due before its
--- time; or the server has another limit for its clients, or may have another number of leases.
+-- time; or the server has another limit for its clients, or another number of rows.
 pub data Goes (old : WorldValue) : WorldValue → Type 0 where
   by_event : (event : Event) (outcome : Outcome) (new : WorldValue) → Step old event outcome new → Goes old new
   by_taking : (number : ℕ) (from to : Addr) (octets : List ℕ) (taken : TakenValue) (ends : Ends) → addr_of old.ends number ≡ Some to → Origin old from to octets → EndTakes (reading old.now number) old.ends from octets number taken ends

@@ -32,13 +32,13 @@ act_at now = record { now = now; calls = [] }
 abbrev pub AreReadAt : (now : ℕ) → (moments : List ℕ) → Type 0
 AreReadAt now moments = AllByRecursion (λ moment. moment ≡ now) moments
 
--- the same server, whose table may have so many leases
+-- the same server, with so many rows: its table may have as many live leases
 abbrev pub with_rows : (rows : ℕ) → ServerValue → ServerValue
 with_rows rows server = record server { table = record server.table { config = record server.table.config { rows = rows } } }
 
--- A server starts and knows nothing; or it resumes, with the leases that it had. It has another limit for its clients, or none; or its
--- table may have another number of leases. It goes through a turn, or the device fails in it; a reply is sent at its turn, or later, while
--- it may still come, or never. And it crashes.
+-- A server starts and knows nothing; or it resumes, with the leases that it had. It has another limit for its clients, or none; or it has
+-- another number of rows. It goes through a turn, or the device fails in it; a reply is sent at its turn, or later, while it may still come,
+-- or never. And it crashes.
 pub data ServerLives (config : ConfigValue) : ServerEnd → Act → ServerEnd → Type 0 where
   starts : (now : ℕ) (server : ServerValue) → ServerStarts config now server → ServerLives config never_up (act_at now) (up server)
   starts_anew : (now : ℕ) (was server : ServerValue) → ServerStarts config now server → ServerLives config (down was) (act_at now) (up server)

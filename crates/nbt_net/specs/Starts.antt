@@ -21,7 +21,7 @@ use Rattle.nbt_store.specs.declared.resuming.Found.{Found}
 use Rattle.nbt_net.specs.Servers.{with_rows}
 
 -- What a start finds are octets that a crash left: a file of these changes, whose header has this last time, and the start of the server
--- that ran. The start has that server's life and longest lease. It may have another number of leases.
+-- that ran. The start has that server's life and longest lease. It may have another number of rows.
 pub record FindsLeft (ran : ServerValue) (last : ℕ) (left : List Change) (f : Found) : Type 0 where
   pub octets : Bor (List ℕ)
   pub header : Header
@@ -38,9 +38,9 @@ pub record FindsLeft (ran : ServerValue) (last : ℕ) (left : List Change) (f : 
 abbrev pub HasNotGoneBack : {ran : ServerValue} {last : ℕ} {left : List Change} {f : Found} → FindsLeft ran last left f → (was : ServerValue) → Begun → Type 0
 HasNotGoneBack {left = left} {f = f} found was b = IsTrue (is_same_clock found.header (times_after_all left (first_times found.header)) f.seen) → was.last ≤ b.server.last
 
--- The server that begins is that one, resumed with all of its times so much later, and with as many rows as the start has. At the start its
--- clock reads no less than the last time of what was left, and it serves from no earlier than that on. That clock is the machine's, as much
--- ahead as the header of its own file says.
+-- The server that begins is that one, resumed with all of its times so much later, and with the number of rows of the start. At the start
+-- its clock reads no less than the last time of what was left, and it serves from no earlier than that on. That clock is the machine's, as
+-- much ahead as the header of its own file says.
 pub record ResumesLater (was : ServerValue) (last : ℕ) (left : List Change) (f : Found) (b : Begun) : Type 0 where
   pub shift : ℕ
   pub resumes : ServerResumes (with_rows f.config.rows (shifted_server shift was)) b.server.last (limited was.client_rows b.server)

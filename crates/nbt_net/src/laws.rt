@@ -114,7 +114,7 @@ pub fn a_host_lives_the_same_by_a_shifted_clock()
 }
 
 /// By such a clock a server lives the same life too. So its life goes on over a crash and a start that finds what it left, by the clock of that start, over any number of crashes: by that clock the
-/// server resumes with the leases that it had, also where it may have another number of them, and what the crash cut off is no part of its life.
+/// server resumes with the leases that it had, its number of rows may be another one, and what the crash cut off is no part of its life.
 pub fn a_life_goes_on_after_a_restart()
     ensures later { LivesLater }
     ensures restart { RestartGoesOn }
@@ -134,7 +134,8 @@ pub fn a_front_moves_no_name_of_an_end<P: Port>()
 
 /// However a server that keeps its leases begins, a run begins with what it wrote, and the header of its file has its limits, its start and the
 /// time that its clock read (`begins`). So it lives over any number of crashes, each at or within any call of its devices: what holds of the first
-/// start (`first`) holds of the next one (`next`), which goes on with what the crash left or begins anew, and so of each behind it.
+/// start (`first`) holds of the next one (`next`), which goes on with what the crash left or begins anew, and so of each behind it. Each start may
+/// have a number of rows of its own; all have one life and one longest lease.
 pub fn a_server_lives_over_any_number_of_crashes()
     ensures begins { StartBeginsARun }
     ensures first { FirstStart }
@@ -168,9 +169,9 @@ pub fn lives_are_safe()
 }
 
 /// A start that finds what a crash left of a run, and goes on, resumes an earlier server of that run, which knows of each reply that has
-/// left. All times of that server count as later by one constant. Its live leases, its start, its limit of clients, its life and its longest
-/// lease are the same; it has as many rows as it was started with. It serves from no earlier than any time at which it served before. So this start
-/// is the world's event of a server that resumes, where all times of the server's end count so; only its number of rows is another one then.
+/// left. All times of that server count as later by one constant. Its live leases, its start, its life and its longest lease are the same,
+/// and it has the number of rows of this start. It serves from no earlier than any time at which it served before. So this start is the world's
+/// event of a server that resumes, where all times of the server's end count so; and its number of rows is another one then.
 ///
 /// Where the clock of the file's own boot goes on, it is a premise that this clock reads no less than at the earlier server's last
 /// datagram. Over any other clock that is proved.

@@ -91,7 +91,7 @@ pub limit_kept : (w : WorldValue) (server : ServerValue) (rows : Option ℕ) →
 limit_kept w server rows kept is =
     stays_kept w server (limited rows server) kept is (λ k. record { life_is = k.life_is; longest_is = k.longest_is; past = k.past; sound = k.sound }) refl refl refl
 
--- nor does another number of leases that it may have
+-- nor does another number of rows
 pub rows_kept : (w : WorldValue) (server : ServerValue) (rows : ℕ) → Invariant w → w.ends.server ≡ Some server
     → Invariant (record w { ends = with_server w.ends (Some (record server { table = record server.table { config = record server.table.config { rows = rows } } })) w.ends.crashed })
 rows_kept w server rows kept is =

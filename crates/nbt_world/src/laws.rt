@@ -83,8 +83,8 @@ pub fn ids_and_early_refreshes_keep_the_facts()
     nbt_lease::laws::rest_outlasts_datagrams();
 }
 
-/// A world keeps its facts too where the server gives its clients a limit, or lifts it (`clients`), and where it may have another
-/// number of leases (`rows`): which leases live stays the same.
+/// A world keeps its facts too where the server gives its clients a limit, or lifts it (`clients`), and where it has another number
+/// of rows (`rows`): which leases live stays the same.
 pub fn limits_keep_the_facts()
     ensures clients { (world : WorldValue) (server : ServerValue) (rows : Option ℕ) → Invariant world → world.ends.server ≡ Some server
         → Invariant (record world { ends = with_server world.ends (Some (limited rows server)) world.ends.crashed }) }

@@ -190,7 +190,7 @@ pub record IsNodeOf (world : WorldValue) (number : ℕ) (addr : Addr) (node : No
   pub past : node.last ≤ reading world.now number
 
 -- The server, also while it is down, has the world's life and longest lease, and sound leases, none of which ends later than
--- the longest lease from what it reads now. It may have another number of leases than the world's limits say.
+-- the longest lease from what it reads now. It may have another number of rows.
 pub record IsServerOf (world : WorldValue) (server : ServerValue) : Type 0 where
   pub life_is : server.table.config.life ≡ world.config.life
   pub longest_is : server.table.config.longest ≡ world.config.longest
