@@ -72,7 +72,7 @@ pub which_clock : (form : Form) (h : Header) (times : Times) (config : ConfigVal
 which_clock form h times config seen silent o is =
     let life = passed_over (not (nat_eq h.life config.life)) _ _ o is in
     let longest = passed_over (not (nat_eq h.longest config.longest)) _ _ o life.1 in
-    let rows = passed_over (not (nat_eq h.rows config.rows)) _ _ o longest.1 in
+    let rows = passed_over (not (nat_le h.rows config.rows)) _ _ o longest.1 in
     let sound = passed_over (not (has_sound_times h times seen)) _ _ o rows.1 in
     (is_so (has_sound_times h times seen) sound.0, same_or_other form h times seen silent o (taken_or (is_same_clock h times seen) (by_same_clock h times seen) (by_other_clock form h times seen silent) o sound.1))
 
