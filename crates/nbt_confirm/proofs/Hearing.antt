@@ -5,10 +5,11 @@ use Rattle.std.specs.Option.{option_map}
 use Rattle.std.proofs.lemmas.Bool.{lt-leb}
 use Rattle.nbt_name.specs.declared.addr.Addr.{Addr}
 use Rattle.nbt_confirm.specs.declared.inquiry.Inquiry.{Inquiry}
+use Rattle.nbt_confirm.specs.declared.inquiry.Way.{Way}
 use Rattle.nbt_confirm.specs.declared.request.Request.{Request}
 use Rattle.nbt_confirm.specs.declared.waits.Pending.{Pending}
 use Rattle.nbt_confirm.specs.Firsts.{without_first}
-use Rattle.nbt_confirm.specs.Inquiries.{MachineValue, ResponseValue, IsResponse, inquiry_form, machine_by}
+use Rattle.nbt_confirm.specs.Inquiries.{MachineValue, ResponseValue, IsResponse, inquiry_form, machine_by, way_of}
 use Rattle.nbt_confirm.specs.Waiting.{Hears, answered, unasked, no_response, is_answered, inquiry_in, inquiry_of, begun, gap, next_begun, next_to_ask, queries, Sends, waits_most, WaitsValue, with_begun}
 
 -- where nothing is found, nothing goes
@@ -53,11 +54,11 @@ next_is now id waits r few is = rw (lt-leb waits_most (length waits.pending) few
 
 -- ---- what is sent, and what is under way then
 
-pub sends_none : (found : Option Pending) (to : Option ℕ) (octets : List ℕ) → found ≡ None → to ≡ None → octets ≡ [] → Sends (inquiry_in found) to octets
+pub sends_none : (found : Option Pending) (to : Option Way) (octets : List ℕ) → found ≡ None → to ≡ None → octets ≡ [] → Sends (inquiry_in found) to octets
 sends_none found to octets none nowhere empty = rw none (record { to_is = nowhere; octets_are = empty })
 
-pub sends_one : (found : Option Pending) (p : Pending) (octets : List ℕ) → Some p ≡ found → octets ≡ inquiry_form p.inquiry → Sends (inquiry_in found) (Some p.inquiry.asked) octets
-sends_one found p octets is form = subst (λ (f : Option Pending). Sends (inquiry_in f) (Some p.inquiry.asked) octets) is (record { to_is = refl; octets_are = form })
+pub sends_one : (found : Option Pending) (p : Pending) (way : Way) (octets : List ℕ) → Some p ≡ found → way ≡ way_of p.inquiry → octets ≡ inquiry_form p.inquiry → Sends (inquiry_in found) (Some way) octets
+sends_one found p way octets is goes form = subst (λ (f : Option Pending). Sends (inquiry_in f) (Some way) octets) is (record { to_is = ap Some goes; octets_are = form })
 
 pub begins_none : (waits : WaitsValue) (found : Option Pending) → found ≡ None → waits ≡ record waits { pending = with_begun found waits.pending }
 begins_none waits found none = rw none refl

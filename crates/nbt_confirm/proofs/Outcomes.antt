@@ -24,6 +24,9 @@ grants a.Requester Silent is = absurd cc
 grants a.Source Listed is = absurd cc
 grants a.Source Unlisted is = absurd cc
 grants a.Source Silent is = absurd cc
+grants a.Reach Listed is = absurd cc
+grants a.Reach Unlisted is = absurd cc
+grants a.Reach Silent is = absurd cc
 grants (a.LeaseEnd until) answer is = absurd cc
 
 pub adds : (awaits : Awaits) (answer : Answer) → outcome_of awaits answer ≡ o.Further → (awaits ≡ a.Holder) × (answer ≡ Listed)
@@ -42,9 +45,33 @@ adds a.Requester Silent is = absurd cc
 adds a.Source Listed is = absurd cc
 adds a.Source Unlisted is = absurd cc
 adds a.Source Silent is = absurd cc
+adds a.Reach Listed is = absurd cc
+adds a.Reach Unlisted is = absurd cc
+adds a.Reach Silent is = absurd cc
 adds (a.LeaseEnd until) answer is = absurd cc
 
 pub refuses : (answer : Answer) → (outcome_of a.Requester answer ≡ o.Refuse) ⊎ (answer ≡ Listed)
 refuses Listed = inr refl
 refuses Unlisted = inl refl
 refuses Silent = inl refl
+
+pub reaches : (awaits : Awaits) (answer : Answer) → outcome_of awaits answer ≡ o.Reached → (awaits ≡ a.Reach) × (answer ≡ Listed)
+reaches a.Reach Listed is = (refl, refl)
+reaches a.Reach Unlisted is = absurd cc
+reaches a.Reach Silent is = absurd cc
+reaches a.Holder Listed is = absurd cc
+reaches a.Holder Unlisted is = absurd cc
+reaches a.Holder Silent is = absurd cc
+reaches a.AfterLease Listed is = absurd cc
+reaches a.AfterLease Unlisted is = absurd cc
+reaches a.AfterLease Silent is = absurd cc
+reaches a.Sender Listed is = absurd cc
+reaches a.Sender Unlisted is = absurd cc
+reaches a.Sender Silent is = absurd cc
+reaches a.Requester Listed is = absurd cc
+reaches a.Requester Unlisted is = absurd cc
+reaches a.Requester Silent is = absurd cc
+reaches a.Source Listed is = absurd cc
+reaches a.Source Unlisted is = absurd cc
+reaches a.Source Silent is = absurd cc
+reaches (a.LeaseEnd until) answer is = absurd cc

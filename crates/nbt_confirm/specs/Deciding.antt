@@ -2,7 +2,6 @@
 use Rattle.std.specs.Prelude.{◌≡◌, ◌≢◌, ℕ, List, [], ◌∷◌}
 use Rattle.std.specs.List.{AllByRecursion}
 use Rattle.nbt_name.specs.Wire.{IsStar}
-use Rattle.nbt_name.specs.Words.{word_at}
 use Rattle.nbt_name.specs.declared.addr.Addr.{Addr}
 use Rattle.nbt_name.specs.declared.addr.Kind.{Kind}
 use Rattle.nbt_name.specs.declared.addr.Kind.TheVariants.{Unique, Group}
@@ -18,15 +17,16 @@ use Rattle.nbt_server.specs.Outcomes.{claim_in}
 use Rattle.nbt_server.specs.Serving.{AsksFor}
 use Rattle.nbt_confirm.specs.declared.request.Awaits.{Awaits}
 use Rattle.nbt_confirm.specs.declared.request.Awaits.TheVariants.{Holder, Sender, Source}
+use Rattle.nbt_confirm.specs.declared.request.Came.{Came}
 use Rattle.nbt_confirm.specs.declared.request.Request.{Request}
 
 -- the octets spell a registration or a refresh of this
 abbrev pub Claims : List ℕ → Registration → Type 0
 Claims octets r = (m : MessageValue) × AsksFor m r × Spells octets m
 
--- it, sent from this endpoint with these flags, as it waits for what the machine at an address says
-abbrev pub request_of : Addr → (flags : ℕ) → Registration → Awaits → (asked : ℕ) → Request
-request_of from flags r awaits asked = record { from = from; id = r.id; flags = flags; name = r.name; kind = r.kind; addr = r.addr; ttl = r.ttl; awaits = awaits; asked = asked }
+-- it, as it came so, and as it waits for what the machine at an address says
+abbrev pub request_of : Came → Registration → Awaits → (asked : ℕ) → Request
+request_of came r awaits asked = record { from = came.from; local = came.local; id = r.id; flags = came.flags; name = r.name; kind = r.kind; addr = r.addr; ttl = r.ttl; awaits = awaits; asked = asked }
 
 -- ---- a request that the server refused
 
@@ -35,14 +35,14 @@ abbrev pub IsLeasedBy : (holder : ℕ) → List Lease → Type 0
 IsLeasedBy holder leases = (lease : Lease) × (others : List Lease) × (leases ≡ lease ∷ others) × (lease.kind ≡ Unique) × (lease.addr ≡ holder)
 
 -- The server refused it, since another address leases that unique name: it waits for what that address's machine says.
-pub record IsHeldBack (table : TableValue) (now : ℕ) (from : Addr) (octets : List ℕ) (outcome : Outcome) (request : Request) : Type 0 where
+pub record IsHeldBack (table : TableValue) (now : ℕ) (came : Came) (octets : List ℕ) (outcome : Outcome) (request : Request) : Type 0 where
   pub r : Registration
   pub claims : Claims octets r
   pub unique : r.kind ≡ Unique
   pub holder : ℕ
   pub refused : outcome ≡ Refused (claim_in r) (Active holder)
   pub leased : IsLeasedBy holder (leases_at now table.rows r.name)
-  pub request_is : request ≡ request_of from (word_at octets 2) r Holder holder
+  pub request_is : request ≡ request_of came r Holder holder
 
 -- ---- a request of OPCODE 15, before the server handles it
 

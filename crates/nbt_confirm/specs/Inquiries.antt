@@ -10,11 +10,16 @@ use Rattle.nbt_packet.specs.Message.{found, kind_in, nb}
 use Rattle.nbt_packet.specs.Spelling.{Spells}
 use Rattle.nbt_packet.specs.Text.{entry, question_octets}
 use Rattle.nbt_confirm.specs.declared.inquiry.Inquiry.{Inquiry}
+use Rattle.nbt_confirm.specs.declared.inquiry.Way.{Way}
 use Rattle.nbt_confirm.specs.declared.response.Response.{Response}
 
 -- NAME_SERVICE_UDP_PORT (RFC 1002 section 6)
 abbrev pub name_port : ℕ
 name_port = 137
+
+-- where its queries go
+abbrev pub way_of : Inquiry → Way
+way_of i = record { asked = i.asked; local = i.local }
 
 -- A name query to one end, with RD clear: a machine answers it for the names that it holds, and for no others.
 abbrev pub inquiry_form : Inquiry → List ℕ

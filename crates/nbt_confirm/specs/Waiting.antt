@@ -10,6 +10,7 @@ use Rattle.nbt_packet.specs.Message.{nb}
 use Rattle.nbt_packet.specs.Text.{answer_octets}
 use Rattle.nbt_server.specs.Serving.{seconds_until}
 use Rattle.nbt_confirm.specs.declared.inquiry.Inquiry.{Inquiry}
+use Rattle.nbt_confirm.specs.declared.inquiry.Way.{Way}
 use Rattle.nbt_confirm.specs.declared.request.Awaits.{Awaits}
 use Rattle.nbt_confirm.specs.declared.request.Awaits.TheVariants as a
 use Rattle.nbt_confirm.specs.declared.request.Request.{Request}
@@ -22,7 +23,7 @@ use Rattle.nbt_confirm.specs.declared.waits.Served.{Served}
 use Rattle.nbt_confirm.specs.declared.waits.Taken.{Taken}
 use Rattle.nbt_confirm.specs.declared.waits.Taken.TheVariants as taken
 use Rattle.nbt_confirm.specs.Firsts.{without_first}
-use Rattle.nbt_confirm.specs.Inquiries.{MachineValue, ResponseValue, IsResponse, inquiry_form, same_kind, is_answered_by, machine_by}
+use Rattle.nbt_confirm.specs.Inquiries.{MachineValue, ResponseValue, IsResponse, inquiry_form, way_of, same_kind, is_answered_by, machine_by}
 
 -- ---- the limits
 
@@ -56,6 +57,8 @@ outcome_of a.Sender said.Listed = o.Grant
 outcome_of a.Sender answer = o.Nothing
 outcome_of a.Source said.Listed = o.GrantSource
 outcome_of a.Source answer = o.NotOwn
+outcome_of a.Reach said.Listed = o.Reached
+outcome_of a.Reach answer = o.Nothing
 outcome_of (a.LeaseEnd until) answer = o.Nothing
 
 -- the machine listed the address that the request is for, and the one that sent it
@@ -108,7 +111,7 @@ next_to_ask waits = find (λ r. is_asking r.awaits && not (is_under_way waits.pe
 
 -- the inquiry of a request
 abbrev pub inquiry_of : (id : ℕ) → Request → Inquiry
-inquiry_of id r = record { id = id; name = r.name; kind = r.kind; asked = r.asked }
+inquiry_of id r = record { id = id; name = r.name; kind = r.kind; asked = r.asked; local = r.local }
 
 -- after its first query
 abbrev pub begun : (now id : ℕ) → Request → Pending
@@ -122,21 +125,21 @@ abbrev pub with_begun : Option Pending → List Pending → List Pending
 with_begun None pending = pending
 with_begun (Some p) pending = pending ++ p ∷ []
 
--- A query goes out to the address that is asked, if there is one to send.
+-- A query goes out on its way, if there is one to send.
 abbrev pub query_octets : Option Inquiry → List ℕ
 query_octets None = []
 query_octets (Some i) = inquiry_form i
 
-abbrev pub asked_of : Option Inquiry → Option ℕ
-asked_of None = None
-asked_of (Some i) = Some i.asked
+abbrev pub way_in : Option Inquiry → Option Way
+way_in None = None
+way_in (Some i) = Some (way_of i)
 
 abbrev pub inquiry_in : Option Pending → Option Inquiry
 inquiry_in None = None
 inquiry_in (Some p) = Some p.inquiry
 
-pub record Sends (inquiry : Option Inquiry) (to : Option ℕ) (octets : List ℕ) : Type 0 where
-  pub to_is : to ≡ asked_of inquiry
+pub record Sends (inquiry : Option Inquiry) (to : Option Way) (octets : List ℕ) : Type 0 where
+  pub to_is : to ≡ way_in inquiry
   pub octets_are : octets ≡ query_octets inquiry
 
 -- ---- its other queries, and its end

@@ -3,7 +3,6 @@
 ghost use Rattle.std.specs.Prelude.{◌≡◌, ◌≢◌, ◌≤◌, ◌↔◌, Some, IfNone, IfSome, IsTrue, length, ℕ};
 ghost use Rattle.nbt_lease.specs.Lease.{leases_at};
 ghost use Rattle.nbt_name.specs.declared.addr.Kind.TheVariants.{Group, Unique};
-ghost use Rattle.nbt_name.specs.Words.{word_at};
 ghost use Rattle.nbt_packet.specs.declared.message.Registration.{Registration as Registered};
 ghost use Rattle.nbt_confirm.specs.declared.request.Awaits.{Awaits as Waited};
 ghost use Rattle.nbt_confirm.specs.declared.request.Request.{Request as Waiting};
@@ -13,36 +12,32 @@ ghost use Rattle.nbt_server.specs.declared.outcome.Claim.{Claim as Refusing};
 ghost use Rattle.nbt_server.specs.declared.outcome.Outcome.TheVariants.{Refused};
 ghost use Rattle.nbt_server.specs.declared.outcome.Refusal.TheVariants.{Active};
 
-use crate::request::{Awaits, Request, is_same_kind};
+use crate::request::{Awaits, Came, Request, is_same_kind};
 use nbt_lease::{Lease, Moment, Table};
-use nbt_name::{Addr, Kind, Name, read_word};
+use nbt_name::{Addr, Kind, Name};
 use nbt_packet::{Message, Registration, read};
 use nbt_server::{Claim, Outcome, Refusal};
 
-/// Where the word of R, OPCODE, NM_FLAGS and RCODE stands (RFC 1002 section 4.2.1.1).
-const FLAGS: usize = 2;
-
-/// The request that waits for the holder, where the server did this with these octets from an endpoint at `now`: it refused a
+/// The request that waits for the holder, where the server did this with these octets, which came so, at `now`: it refused a
 /// registration or a refresh of a unique name with ACT_ERR (6), since another address leases that name, and its reply is held back. `None`
 /// for all else, whose reply goes out (our profile). `now` is at least the table's `last()`.
 pub fn held_back(
     table: &Table,
     now: Moment,
-    from: Addr,
+    came: Came,
     octets: &[u8],
     outcome: &Outcome,
 ) -> Option<Request>
     requires { table.now.last ≤ now }
-    ensures held { IfSome result (IsHeldBack table.now now from octets.now outcome.now) }
-    ensures others { IfNone result ((request : Waiting) → ¬ IsHeldBack table.now now from octets.now outcome.now request) }
+    ensures held { IfSome result (IsHeldBack table.now now came octets.now outcome.now) }
+    ensures others { IfNone result ((request : Waiting) → ¬ IsHeldBack table.now now came octets.now outcome.now request) }
 {
     let (claim, holder) = unique_refused(outcome)?;
     let asked = claim_read(octets)?;
     if !is_claim(claim, &asked) || !is_leased_by(table, now, &claim.name, holder) {
         return None;
     }
-    let flags = read_word(octets, FLAGS);
-    Some(request_of(from, flags, &asked, Awaits::Holder, holder))
+    Some(request_of(came, &asked, Awaits::Holder, holder))
 }
 
 /// What a request of OPCODE 15 waits for before the server handles it: the answer of the address that sent it, as `Source` where it is
@@ -72,21 +67,16 @@ pub fn asks_first(
     }
 }
 
-/// The request that a claim with these flags from an endpoint is, as it waits for what the machine at the 32-bit address `asked` says
-/// (our profile). `flags` is the word of R, OPCODE, NM_FLAGS and RCODE (RFC 1002 section 4.2.1.1); the TTL stays in seconds.
-pub fn request_of(
-    from: Addr,
-    flags: u16,
-    claim: &Registration<'_>,
-    awaits: Awaits,
-    asked: u32,
-) -> Request
-    ensures { result ≡ request_of from flags claim.now awaits asked }
+/// The request that a claim is which came so, as it waits for what the machine at the 32-bit address `asked` says (our profile). The TTL
+/// stays in seconds.
+pub fn request_of(came: Came, claim: &Registration<'_>, awaits: Awaits, asked: u32) -> Request
+    ensures { result ≡ request_of came claim.now awaits asked }
 {
     Request {
-        from,
+        from: came.from,
+        local: came.local,
         id: claim.id,
-        flags,
+        flags: came.flags,
         name: claim.name.to_name(),
         kind: claim.kind,
         addr: claim.addr,

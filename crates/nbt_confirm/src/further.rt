@@ -4,7 +4,7 @@ ghost use Rattle.std.specs.Prelude.{◌≡◌, ◌↔◌, ◌<◌, ◌≤◌, �
 ghost use Rattle.std.specs.List.{find, list_any, position};
 ghost use Rattle.nbt_confirm.specs.Firsts.{with_first, without_first};
 ghost use Rattle.nbt_confirm.specs.Further as spec;
-ghost use Rattle.nbt_confirm.specs.Further.{further_most, is_at, is_kept, is_listed, is_next, is_of, kept_at, listed_at, name_most, put_as, put_row, renewed_row, with_put, without, without_name};
+ghost use Rattle.nbt_confirm.specs.Further.{further_most, is_at, is_confirmed, is_kept, is_listed, is_next, is_of, kept_at, listed_at, name_most, put_as, put_row, reached_row, renewed_row, with_put, without, without_name};
 
 use crate::machine::Confirmed;
 use arrayvec::ArrayVec;
@@ -32,6 +32,8 @@ pub struct Further {
     pub end: u64,
     /// Until when its own refreshes last, in milliseconds: so long it may take the lease over.
     pub renewed_until: u64,
+    /// Whether it has answered itself: before that it isn't listed, and takes no lease over.
+    pub reached: bool,
 }
 
 /// What became of a further address that was confirmed.
@@ -106,9 +108,9 @@ impl FurtherAddresses {
         put
     }
 
-    /// Whether an address is listed as a further one of the name at `now`, while this address holds it.
+    /// Whether an address is a further one of the name at `now`, while this address holds it, whether it has answered or not.
     pub fn has(&self, now: Moment, name: &Name, holder: u32, addr: u32) -> bool
-        ensures { result ≡ list_any (λ row. is_listed now name.now holder row && nat_eq row.addr addr) self.now }
+        ensures { result ≡ list_any (λ row. is_confirmed now name.now holder row && nat_eq row.addr addr) self.now }
     {
         has_in(self.rows.as_slice(), now.get(), name, holder, addr)
     }
@@ -119,6 +121,20 @@ impl FurtherAddresses {
         ensures { self.new ≡ with_first (is_at name.now addr) (renewed_row holder until lease_end) self.old }
     {
         renew_in(&mut self.rows, name, addr, holder, until, lease_end);
+    }
+
+    /// Has one be listed from now on, since it has answered itself. Nothing changes where it isn't there.
+    pub fn reach(&mut self, name: &Name, addr: u32)
+        ensures { self.new ≡ with_first (is_at name.now addr) reached_row self.old }
+    {
+        reach_in(&mut self.rows, name, addr);
+    }
+
+    /// Whether one is there that has answered itself.
+    pub fn is_reached(&self, name: &Name, addr: u32) -> bool
+        ensures { result ≡ list_any (λ row. is_at name.now addr row && row.reached) self.now }
+    {
+        is_reached_in(self.rows.as_slice(), name, addr)
     }
 
     /// Ends one, if it is there, for its own release.
@@ -219,6 +235,7 @@ fn row_of(confirmed: &Confirmed, until: u64, lease_end: u64) -> Further
         addr: confirmed.addr(),
         end: until.min(lease_end),
         renewed_until: until,
+        reached: false,
     }
 }
 
@@ -256,18 +273,50 @@ fn renew_one(row: &mut Further, holder: u32, until: u64, lease_end: u64)
     row.end = row.renewed_until.min(lease_end);
 }
 
-/// Whether an address is listed as a further one of the name.
-fn has_in(rows: &[Further], now: u64, name: &Name, holder: u32, addr: u32) -> bool
-    ensures { result ≡ list_any (λ row. is_listed now name.now holder row && nat_eq row.addr addr) rows.now }
+/// Has the first one of this name and address be listed.
+fn reach_in(rows: &mut Vec<Further>, name: &Name, addr: u32)
+    ensures rows { rows.new.items ≡ with_first (is_at name.now addr) reached_row rows.old.items }
+    ensures capacity { vec_capacity rows.new ≡ vec_capacity rows.old }
 {
-    rows.iter().any(|row| is_listed(row, now, name, holder) && row.addr == addr)
+    if let Some(place) = place_at(rows.as_slice(), name, addr) {
+        reach_one(&mut rows[place]);
+    }
+}
+
+/// Has one be listed.
+fn reach_one(row: &mut Further)
+    ensures { row.new ≡ reached_row row.old }
+{
+    row.reached = true;
+}
+
+/// Whether one of this name and address has answered.
+fn is_reached_in(rows: &[Further], name: &Name, addr: u32) -> bool
+    ensures { result ≡ list_any (λ row. is_at name.now addr row && row.reached) rows.now }
+{
+    rows.iter()
+        .any(|row| row.name == *name && row.addr == addr && row.reached)
+}
+
+/// Whether an address is a further one of the name.
+fn has_in(rows: &[Further], now: u64, name: &Name, holder: u32, addr: u32) -> bool
+    ensures { result ≡ list_any (λ row. is_confirmed now name.now holder row && nat_eq row.addr addr) rows.now }
+{
+    rows.iter().any(|row| is_confirmed(row, now, name, holder) && row.addr == addr)
 }
 
 /// Whether it is one of the name's, and the holder that confirmed it has its lease still.
+fn is_confirmed(row: &Further, now: u64, name: &Name, holder: u32) -> bool
+    ensures { result ≡ is_confirmed now name.now holder row.now }
+{
+    row.name == *name && row.holder == holder && now < row.end
+}
+
+/// Whether it has answered too.
 fn is_listed(row: &Further, now: u64, name: &Name, holder: u32) -> bool
     ensures { result ≡ is_listed now name.now holder row.now }
 {
-    row.name == *name && row.holder == holder && now < row.end
+    row.reached && is_confirmed(row, now, name, holder)
 }
 
 /// The first address that may take the lease over from this holder.
@@ -275,7 +324,7 @@ fn next_in(rows: &[Further], now: u64, name: &Name, holder: u32) -> Option<u32>
     ensures { result ≡ spec.addr_in (find (is_next now name.now holder) rows.now) }
 {
     for row in rows {
-        if row.name == *name && row.holder == holder && now < row.renewed_until {
+        if row.reached && row.name == *name && row.holder == holder && now < row.renewed_until {
             return Some(row.addr);
         }
     }

@@ -5,11 +5,11 @@ ghost use Rattle.nbt_name.specs.Wire.{IsName};
 ghost use Rattle.nbt_packet.specs.Message.{nb, query};
 ghost use Rattle.nbt_packet.specs.Spelling.{Spells};
 ghost use Rattle.nbt_packet.specs.Text.{question_octets};
-ghost use Rattle.nbt_confirm.specs.Inquiries.{inquiry_form};
+ghost use Rattle.nbt_confirm.specs.Inquiries.{inquiry_form, way_of};
 
 use crate::wire::{IN, NB, put_header};
 use arrayvec::ArrayVec;
-use nbt_name::{Kind, Name, put_word};
+use nbt_name::{Addr, Kind, Name, put_word};
 
 /// NAME_SERVICE_UDP_PORT (RFC 1002 section 6): an inquiry goes to this port, and its response comes from it.
 pub const NAME_PORT: u16 = 137;
@@ -28,6 +28,29 @@ pub struct Inquiry {
     pub kind: Kind,
     /// The 32-bit address that is asked, at port 137.
     pub asked: u32,
+    /// The server's own end from which its queries leave; `None` for its first.
+    pub local: Option<Addr>,
+}
+
+/// Where a query goes.
+#[derive(Clone, Copy, Debug, PartialEq, Eq)]
+pub struct Way {
+    /// To this 32-bit address, at port 137.
+    pub asked: u32,
+    /// From this end of the server; `None` for its first.
+    pub local: Option<Addr>,
+}
+
+impl Inquiry {
+    /// Where its queries go.
+    pub fn way(&self) -> Way
+        ensures { result ≡ way_of self.now }
+    {
+        Way {
+            asked: self.asked,
+            local: self.local,
+        }
+    }
 }
 
 /// Leaves in `out` an inquiry's query, 50 octets and more with a scope, and nothing else: NAME QUERY REQUEST with RD clear (RFC

@@ -6,9 +6,9 @@ ghost use Rattle.nbt_name.specs.declared.addr.Addr.{Addr};
 ghost use Rattle.nbt_confirm.specs.declared.inquiry.Inquiry.{Inquiry as Asked};
 ghost use Rattle.nbt_confirm.specs.declared.outcome.Answer.{Answer};
 ghost use Rattle.nbt_confirm.specs.declared.outcome.Answer.TheVariants.{Listed, Silent};
-ghost use Rattle.nbt_confirm.specs.declared.outcome.Outcome.TheVariants.{Further, Grant, Refuse};
+ghost use Rattle.nbt_confirm.specs.declared.outcome.Outcome.TheVariants.{Further, Grant, Reached, Refuse};
 ghost use Rattle.nbt_confirm.specs.declared.request.Awaits.{Awaits};
-ghost use Rattle.nbt_confirm.specs.declared.request.Awaits.TheVariants.{AfterLease, Holder, Requester, Sender};
+ghost use Rattle.nbt_confirm.specs.declared.request.Awaits.TheVariants.{AfterLease, Holder, Reach, Requester, Sender};
 ghost use Rattle.nbt_confirm.specs.declared.request.Request.{Request};
 ghost use Rattle.nbt_confirm.specs.declared.waits.Pending.{Pending};
 ghost use Rattle.nbt_confirm.specs.Further.{further_most, name_most};
@@ -33,11 +33,12 @@ pub fn a_node_of_ours_has_no_further_address()
 }
 
 /// A request is granted only where the requester listed itself, and only after the lease that stood in its way, or where the name had
-/// none; it adds a further address only where the holder listed it; and a requester that doesn't list itself, as a node of ours before
+/// none; it adds a further address only where the holder listed it, which is listed only once it has answered itself; and a requester that doesn't list itself, as a node of ours before
 /// it is granted, is refused.
 pub fn what_an_answer_can_do()
     ensures grants { (awaits : Awaits) (answer : Answer) → outcome_of awaits answer ≡ Grant → ((awaits ≡ AfterLease) ⊎ (awaits ≡ Sender)) × (answer ≡ Listed) }
     ensures adds { (awaits : Awaits) (answer : Answer) → outcome_of awaits answer ≡ Further → (awaits ≡ Holder) × (answer ≡ Listed) }
+    ensures reaches { (awaits : Awaits) (answer : Answer) → outcome_of awaits answer ≡ Reached → (awaits ≡ Reach) × (answer ≡ Listed) }
     ensures refuses { (answer : Answer) → (outcome_of Requester answer ≡ Refuse) ⊎ (answer ≡ Listed) }
 {}
 

@@ -22,8 +22,8 @@ mod wire;
 
 pub use deciding::{asks_first, held_back, request_of};
 pub use further::{FURTHER_MOST, Further, FurtherAddresses, NAME_MOST, Put};
-pub use inquiry::{Inquiry, NAME_PORT, write_inquiry};
+pub use inquiry::{Inquiry, NAME_PORT, Way, write_inquiry};
 pub use machine::{Confirmed, Machine};
 pub use outcome::{Answer, Outcome, outcome_of};
-pub use request::{Awaits, Request, wait_seconds, write_wait};
+pub use request::{Awaits, Came, Request, wait_seconds, write_wait};
 pub use waits::{CLIENT_MOST, GAP, Pending, QUERIES, Served, Silence, Taken, WAITS_MOST, Waits};

@@ -20,7 +20,8 @@ pub enum Answer {
 /// What is to be done with a request.
 #[derive(Clone, Copy, Debug, PartialEq, Eq)]
 pub enum Outcome {
-    /// Its address is a further one of the holder's machine: it is put among the further addresses, and the reply is positive.
+    /// Its address is a further one of the holder's machine: it is put among the further addresses, and the reply is positive. It is
+    /// asked itself next, unless it has answered before.
     Further,
     /// The reply is ACT_ERR (6): another machine has the name.
     Refuse,
@@ -35,6 +36,8 @@ pub enum Outcome {
     GrantSource,
     /// The reply is RFS_ERR (5): the address isn't the sender's.
     NotOwn,
+    /// Its address, which is a further one, has answered: it is listed from now on.
+    Reached,
     /// There is no reply, and no lease.
     Nothing,
 }
@@ -48,6 +51,7 @@ pub enum Outcome {
 /// | the requester, after the lease | `Grant` | `Nothing` | `Nothing` |
 /// | the sender | `Grant` | `Nothing` | `Nothing` |
 /// | the source | `GrantSource` | `NotOwn` | `NotOwn` |
+/// | the further address itself | `Reached` | `Nothing` | `Nothing` |
 /// | a lease's end | `Nothing` | `Nothing` | `Nothing` |
 pub fn outcome_of(awaits: Awaits, answer: Answer) -> Outcome
     ensures { result ≡ spec.outcome_of awaits answer }
@@ -62,6 +66,7 @@ pub fn outcome_of(awaits: Awaits, answer: Answer) -> Outcome
         (Awaits::Sender, Answer::Listed) => Outcome::Grant,
         (Awaits::Source, Answer::Listed) => Outcome::GrantSource,
         (Awaits::Source, _) => Outcome::NotOwn,
+        (Awaits::Reach, Answer::Listed) => Outcome::Reached,
         _ => Outcome::Nothing,
     }
 }

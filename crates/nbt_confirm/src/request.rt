@@ -39,6 +39,8 @@ pub enum Awaits {
     Sender,
     /// The answer of the address that sent it, which isn't the one that it is for: the sender may be behind a masquerade.
     Source,
+    /// The answer of a further address that its holder's machine listed: it is listed only once it has answered itself.
+    Reach,
 }
 
 impl Awaits {
@@ -63,14 +65,27 @@ impl Awaits {
     }
 }
 
+/// How a request came.
+#[derive(Clone, Copy, Debug, PartialEq, Eq)]
+pub struct Came {
+    /// The endpoint that sent it.
+    pub from: Addr,
+    /// The server's own end at which it came; `None` for its first.
+    pub local: Option<Addr>,
+    /// The word of R, OPCODE, NM_FLAGS and RCODE that it came with (RFC 1002 section 4.2.1.1).
+    pub flags: u16,
+}
+
 /// A registration or a refresh that waits, with what its reply needs.
 #[derive(Debug, Drop)]
 pub struct Request {
     /// The endpoint that sent it.
     pub from: Addr,
+    /// The server's own end at which it came, from which its reply leaves; `None` for its first.
+    pub local: Option<Addr>,
     /// NAME_TRN_ID, which its reply has too.
     pub id: u16,
-    /// The word of R, OPCODE, NM_FLAGS and RCODE that it has (RFC 1002 section 4.2.1.1).
+    /// The word of R, OPCODE, NM_FLAGS and RCODE that it came with (RFC 1002 section 4.2.1.1).
     pub flags: u16,
     /// The name.
     pub name: Name,

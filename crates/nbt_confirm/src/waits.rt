@@ -11,7 +11,7 @@ ghost use Rattle.nbt_confirm.specs.Inquiries.{response_of};
 ghost use Rattle.nbt_confirm.specs.Waiting as spec;
 ghost use Rattle.nbt_confirm.specs.Waiting.{Hears, IsFirst, Sends, answer_of, dues, end_in, inquiry_in, inquiry_of, is_answered, is_asking, is_for, is_past, is_same, is_to_repeat, is_unanswered, is_under_way, next_begun, next_to_ask, repeated, served_by, taken_as, waits_most, with_begun, with_taken};
 
-use crate::inquiry::{Inquiry, write_inquiry};
+use crate::inquiry::{Inquiry, Way, write_inquiry};
 use crate::machine::Machine;
 use crate::outcome::{Answer, Outcome, outcome_of};
 use crate::request::{Awaits, Request};
@@ -138,23 +138,22 @@ impl Waits {
     }
 
     /// Begins the inquiry of the first request that waits for an answer, and of whose name no inquiry is under way, with this id.
-    /// Leaves its first query in `out`, and returns the 32-bit address to which it goes, at port 137; `None`, with `out` empty, if
-    /// there is no such request, or 256 inquiries are under way.
-    pub fn begin(&mut self, now: Moment, id: u16, out: &mut ArrayVec<u8, 576>) -> Option<u32>
+    /// Leaves its first query in `out`, and returns where it goes; `None`, with `out` empty, if there is no such request, or 256
+    /// inquiries are under way.
+    pub fn begin(&mut self, now: Moment, id: u16, out: &mut ArrayVec<u8, 576>) -> Option<Way>
         ensures sends { Sends (inquiry_in (next_begun now id self.old)) result out.new.items }
         ensures pending { self.new ≡ record self.old { pending = with_begun (next_begun now id self.old) self.old.pending } }
     {
         out.clear();
         let pending = next_pending(self.requests.as_slice(), self.pending.as_slice(), now, id)?;
         write_inquiry(&pending.inquiry, out);
-        let asked = pending.inquiry.asked;
+        let way = pending.inquiry.way();
         self.pending.push_reserved(pending);
-        Some(asked)
+        Some(way)
     }
 
-    /// Repeats the first query that is due: leaves it in `out`, and returns the 32-bit address to which it goes, at port 137; `None`,
-    /// with `out` empty, if none is due.
-    pub fn repeat(&mut self, now: Moment, out: &mut ArrayVec<u8, 576>) -> Option<u32>
+    /// Repeats the first query that is due: leaves it in `out`, and returns where it goes; `None`, with `out` empty, if none is due.
+    pub fn repeat(&mut self, now: Moment, out: &mut ArrayVec<u8, 576>) -> Option<Way>
         ensures sends { Sends (inquiry_in (find (is_to_repeat now) self.old.pending)) result out.new.items }
         ensures pending { self.new ≡ record self.old { pending = with_first (is_to_repeat now) (repeated now) self.old.pending } }
     {
@@ -293,6 +292,7 @@ fn next_inquiry(requests: &[Request], pending: &[Pending], id: u16) -> Option<In
                 name: request.name.copy(),
                 kind: request.kind,
                 asked: request.asked,
+                local: request.local,
             });
         }
     }
@@ -307,7 +307,7 @@ fn is_under_way(pending: &[Pending], name: &Name) -> bool
 }
 
 /// Repeats the first query that is due.
-fn repeat_in(pending: &mut Vec<Pending>, now: Moment, out: &mut ArrayVec<u8, 576>) -> Option<u32>
+fn repeat_in(pending: &mut Vec<Pending>, now: Moment, out: &mut ArrayVec<u8, 576>) -> Option<Way>
     ensures sends { Sends (inquiry_in (find (is_to_repeat now) pending.old.items)) result out.new.items }
     ensures pending { pending.new.items ≡ with_first (is_to_repeat now) (repeated now) pending.old.items }
     ensures capacity { vec_capacity pending.new ≡ vec_capacity pending.old }
@@ -316,9 +316,9 @@ fn repeat_in(pending: &mut Vec<Pending>, now: Moment, out: &mut ArrayVec<u8, 576
     let place = place_to_repeat(pending.as_slice(), now.get())?;
     let first = &pending[place];
     write_inquiry(&first.inquiry, out);
-    let asked = first.inquiry.asked;
+    let way = first.inquiry.way();
     repeat_one(&mut pending[place], now);
-    Some(asked)
+    Some(way)
 }
 
 /// One query less is left, and the next is due after the gap.

@@ -7,9 +7,9 @@ use super::at;
 use super::expect::{expect_eq_in, expect_in};
 use arrayvec::ArrayVec;
 use nbt_confirm::{
-    Answer, Awaits, FurtherAddresses, Machine, NAME_PORT, Outcome, Put, Request, Served, Silence,
-    Taken, WAITS_MOST, Waits, asks_first, held_back, laws, outcome_of, request_of, wait_seconds,
-    write_wait,
+    Answer, Awaits, Came, FurtherAddresses, Machine, NAME_PORT, Outcome, Put, Request, Served,
+    Silence, Taken, WAITS_MOST, Waits, asks_first, held_back, laws, outcome_of, request_of,
+    wait_seconds, write_wait,
 };
 use nbt_lease::Moment;
 use nbt_name::{Addr, Kind, Name};
@@ -252,6 +252,7 @@ fn request_in(rt: &impl Abort, asks: Asks) -> Request {
             port: NAME_PORT,
         },
         id,
+        local: None,
         flags: 0x7900,
         name: Name::new(name, b"").expect(rt, "a name"),
         kind: Kind::Unique,
@@ -292,12 +293,12 @@ impl Asking {
         match step {
             Step::Begin(now, id, to, text) => {
                 let got = self.waits.begin(at(rt, now), id, &mut out);
-                expect_eq_in(rt, &text, &got, &to);
+                expect_eq_in(rt, &text, &got.map(|way| way.asked), &to);
                 expect_octets(rt, &out, text);
             }
             Step::Repeat(now, to, text) => {
                 let got = self.waits.repeat(at(rt, now), &mut out);
-                expect_eq_in(rt, &text, &got, &to);
+                expect_eq_in(rt, &text, &got.map(|way| way.asked), &to);
                 expect_octets(rt, &out, text);
             }
             Step::Wait(now, end, text) => {
@@ -376,21 +377,29 @@ fn machines_that_are_asked(rt: HostRuntime) {
     }
 }
 
-/// What becomes of a further address at this time: it is confirmed anew or refreshed until a time, while the holder's lease goes on until another,
-/// and where it takes the lease over.
+/// What becomes of a further address at this time: it is confirmed anew or refreshed until a time, while the holder's lease goes on until another;
+/// it answers itself; it is there, and listed; and where it takes the lease over.
 #[derive(Clone, Copy)]
 enum Happens {
     Put(u64, u64, u64, Put),
     Refresh(u64, u64),
+    Reach,
+    Has(u64, bool),
     Listed(u64, bool),
     Counts(u64, usize),
     Next(u64, Option<u32>),
 }
 
 /// NODEM's second address, 198.18.137.5, beside its holder, 198.18.137.4.
-const FURTHER: [Happens; 13] = [
-    Happens::Listed(0, false),
+const FURTHER: [Happens; 20] = [
+    Happens::Reach,
+    Happens::Has(0, false),
     Happens::Put(0, 60_000, 50_000, Put::Begun),
+    Happens::Has(0, true),
+    Happens::Listed(0, false),
+    Happens::Reach,
+    Happens::Has(49_999, true),
+    Happens::Has(50_000, false),
     Happens::Listed(49_999, true),
     Happens::Listed(50_000, false),
     Happens::Counts(59_999, 1),
@@ -399,6 +408,7 @@ const FURTHER: [Happens; 13] = [
     Happens::Listed(59_999, true),
     Happens::Listed(60_000, false),
     Happens::Refresh(110_000, 100_000),
+    Happens::Has(99_999, true),
     Happens::Listed(99_999, true),
     Happens::Next(109_999, Some(FIVE)),
     Happens::Next(109_999, None),
@@ -425,7 +435,14 @@ fn happen(rt: &impl Abort, further: &mut FurtherAddresses, machine: &Machine, ha
             further.list(at(rt, now), name, FOUR, &mut out);
             let wanted: &[u32] = if is { &[FIVE] } else { &[] };
             expect_eq_in(rt, &now, &out.as_slice(), &wanted);
+        }
+        Happens::Has(now, is) => {
             expect_eq_in(rt, &now, &further.has(at(rt, now), name, FOUR, FIVE), &is);
+        }
+        Happens::Reach => {
+            further.reach(name, FIVE);
+            let is = further.has(Moment::zero(), name, FOUR, FIVE);
+            expect_eq_in(rt, &is, &further.is_reached(name, FIVE), &is);
         }
         Happens::Counts(now, rows) => {
             expect_eq_in(rt, &now, &further.count_of(at(rt, now), FIVE), &rows);
@@ -528,12 +545,21 @@ const ASKED: [Asked; 11] = [
     ),
 ];
 
+/// A request of OPCODE 15 from an endpoint.
+fn came_from(from: Addr) -> Came {
+    Came {
+        from,
+        local: None,
+        flags: 0x7900,
+    }
+}
+
 /// What the octets would wait for as a request of OPCODE 15.
 fn first_of(rt: &impl Abort, server: &Server, from: Addr, came: &[u8]) -> Option<Awaits> {
     match read(came)? {
         Message::Registration(claim) | Message::Refresh(claim) => {
             let awaits = asks_first(server.table(), server.last(), from, &claim)?;
-            let request = request_of(from, 0x7900, &claim, awaits, from.ip);
+            let request = request_of(came_from(from), &claim, awaits, from.ip);
             expect_eq_in(rt, &awaits, &request.awaits, &awaits);
             Some(awaits)
         }
@@ -564,7 +590,7 @@ fn ask<R: Abort + AllocGlobal>(rt: &R, server: &mut Server, row: &Asked) {
     let request = held_back(
         server.table(),
         server.last(),
-        from,
+        came_from(from),
         came.as_slice(),
         &outcome,
     );
@@ -581,12 +607,7 @@ fn ask<R: Abort + AllocGlobal>(rt: &R, server: &mut Server, row: &Asked) {
             row,
             came.as_slice().starts_with(&request.id.to_be_bytes()),
         );
-        expect_eq_in(
-            rt,
-            row,
-            &&came.as_slice()[2..4],
-            &request.flags.to_be_bytes().as_slice(),
-        );
+        expect_eq_in(rt, row, &request.flags, &0x7900);
     }
 }
 

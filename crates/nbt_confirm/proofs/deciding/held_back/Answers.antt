@@ -41,5 +41,5 @@ returns-clause-held c =
       holder = c.in_ok-claim.holder;
       refused = rw same at c.in_ok-claim.ensures.some.0;
       leased = subst (λ (k : Claim). IsLeasedBy c.in_ok-claim.holder (leases_at c.args.now c.args.table.now.rows k.name)) same (c.is_leased_by.ensures.0 c.if-not-is_leased_by.false);
-      request_is = rw (← c.read_word-flags.ensures) c.request_of.ensures;
+      request_is = c.request_of.ensures;
     }

@@ -1,6 +1,6 @@
-use Rattle.std.proofs.Common.{ℕ, Option, set, sym, ap, ◌∙◌}
+use Rattle.std.proofs.Common.{ℕ, Option, Some, set, sym, ap, ◌∙◌}
 use Rattle.std.specs.List.{position}
-use Rattle.nbt_confirm.specs.Waiting.{asked_of, inquiry_in, is_to_repeat, query_octets, repeated}
+use Rattle.nbt_confirm.specs.Waiting.{way_in, inquiry_in, is_to_repeat, query_octets, repeated}
 use Rattle.nbt_confirm.specs.declared.waits.Pending.{Pending}
 use Rattle.nbt_confirm.proofs.Firsts.{none_is, none_set, set_is, taken_is}
 use Rattle.nbt_confirm.proofs.waits.repeat_in.Goals as goal
@@ -11,7 +11,7 @@ returns-in_err-place-clause-sends c =
     let at = ap (λ (n : ℕ). position (is_to_repeat n) items) (sym c.get.ensures.value) ∙ (ap (position (is_to_repeat c.get.result)) (sym c.as_slice.ensures.value) ∙ (sym c.place_to_repeat.ensures ∙ c.in_err-place.was)) in
     let none = none_is (is_to_repeat c.args.now) items at in
     record {
-      to_is = c.from_residual.ensures ∙ sym (ap (λ (p : Option Pending). asked_of (inquiry_in p)) none);
+      to_is = c.from_residual.ensures ∙ sym (ap (λ (p : Option Pending). way_in (inquiry_in p)) none);
       octets_are = c.clear.ensures ∙ sym (ap (λ (p : Option Pending). query_octets (inquiry_in p)) none);
     }
 
@@ -27,7 +27,7 @@ returns-clause-sends c =
     let at = ap (λ (n : ℕ). position (is_to_repeat n) items) (sym c.get.ensures.value) ∙ (ap (position (is_to_repeat c.get.result)) (sym c.as_slice.ensures.value) ∙ (sym c.place_to_repeat.ensures ∙ c.in_ok-place.was)) in
     let found = taken_is (is_to_repeat c.args.now) items c.in_ok-place.place c.index-first.result.now at c.index-first.ensures in
     record {
-      to_is = ap (λ (p : Option Pending). asked_of (inquiry_in p)) found;
+      to_is = ap Some c.way-way.ensures ∙ ap (λ (p : Option Pending). way_in (inquiry_in p)) found;
       octets_are = c.write_inquiry.ensures.form ∙ ap (λ (p : Option Pending). query_octets (inquiry_in p)) found;
     }
 

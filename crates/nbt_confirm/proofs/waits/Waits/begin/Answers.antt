@@ -16,7 +16,7 @@ returns-in_err-pending-clause-pending c =
 pub returns-clause-sends : goal.returns-clause-sends
 returns-clause-sends c =
     let same : ◌≡◌ {A = WaitsValue} (record { requests = c.as_slice.result.now; pending = c.as_slice-2.result.now }) c.args.self.now = rw (c.as_slice.ensures.value, c.as_slice-2.ensures.value) c.self.view_is in
-    sends_one (next_begun c.args.now c.args.id c.args.self.now) c.in_ok-pending.pending c.write_inquiry.new.out.items (c.in_ok-pending.ensures.begun ∙ ap (next_begun c.args.now c.args.id) same) c.write_inquiry.ensures.form
+    sends_one (next_begun c.args.now c.args.id c.args.self.now) c.in_ok-pending.pending c.way-way.result c.write_inquiry.new.out.items (c.in_ok-pending.ensures.begun ∙ ap (next_begun c.args.now c.args.id) same) c.way-way.ensures c.write_inquiry.ensures.form
 
 pub returns-clause-pending : goal.returns-clause-pending
 returns-clause-pending c =
