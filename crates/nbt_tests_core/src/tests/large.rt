@@ -151,7 +151,7 @@ fn server_of_many<R: Abort + AllocGlobal>(rt: &R) -> Server {
 #[test]
 fn leases_that_are_over_go_where_a_client_is_full(rt: HostRuntime) {
     let mut server = server_of_many(&rt);
-    let text = "0001 2900 two-parts TEAM NB again NB 60s group 10.0.0.1";
+    let text = "0001 2900 two-parts TEAM NB again NB 60s group 0a000001";
     let asks = octets(&rt, text).expect(&rt, "octets");
     let from = Addr {
         ip: CLIENT,
