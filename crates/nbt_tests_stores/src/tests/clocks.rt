@@ -502,9 +502,9 @@ fn said(
     why_silent(file.0, &header(rt, file), &times, limits, &seen, silent).map(on)
 }
 
-/// Each row is as it says.
-fn ask_all(rt: &impl Abort, rows: &[Asked]) {
-    let limits = Config::new(1000, 60, 4096).expect(rt, "limits");
+/// Each row is as it says, for a server of so many rows.
+fn ask_all(rt: &impl Abort, rows: &[Asked], most: usize) {
+    let limits = Config::large(1000, 60, most).expect(rt, "limits");
     for row in rows {
         let (_, file, until, shown, silent, wanted) = *row;
         let got = said(rt, file, until, limits, shown, silent);
@@ -514,7 +514,10 @@ fn ask_all(rt: &impl Abort, rows: &[Asked]) {
 
 #[test]
 fn clocks_by_which_a_server_goes_on(rt: HostRuntime) {
-    ask_all(&rt, ASKED)
+    // The files are of 4,096 rows. With more it is the same.
+    for most in [4_096, 4_097, 1_048_576] {
+        ask_all(&rt, ASKED, most);
+    }
 }
 
 /// What a server is asked for: LIFE, LONGEST and the rows; when the one that kept the file began; and why it is silent. All else is a
