@@ -687,7 +687,7 @@ uint8_t nbt_listener_on(struct nbt_listener *listener, const struct nbt_node *no
 /* ---- a name server (RFC 1001 section 15.1.7, RFC 1002 section 5.1.4) */
 
 /* A server's memory: what the two functions return, and a type of that size and alignment, so that it can be static. */
-#define NBT_SERVER_SIZE 320
+#define NBT_SERVER_SIZE 336
 #define NBT_SERVER_ALIGN 8
 union nbt_server_memory {
     NBT_ALIGNED uint64_t aligned;

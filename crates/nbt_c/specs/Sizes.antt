@@ -22,7 +22,7 @@ listener_size = 7416
 
 -- beside the memory that a server asks malloc for
 abbrev pub server_size : ℕ
-server_size = 320
+server_size = 336
 
 -- of each of them
 abbrev pub object_align : ℕ

@@ -16,7 +16,7 @@ use std::marker::Model;
 /// The most further addresses of a name (our profile).
 pub const NAME_MOST: usize = 16;
 
-/// The most further addresses of all names (our profile): as many as the leases that a server may have.
+/// The most further addresses of all names (our profile): as many as the leases of a server that isn't large.
 pub const FURTHER_MOST: usize = 4_096;
 
 /// A further address of the machine that holds a name.

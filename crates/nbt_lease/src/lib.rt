@@ -1,7 +1,7 @@
 //! Names that are leased for a time: times, the limits that server and nodes share, and the name server's table of leases.
 //!
-//! A lease is a name's address, kind and expiry. It lives until its expiry, and no longer at it. Only `Table::grant` and
-//! `Table::restore` take memory.
+//! A lease is a name's address, kind and expiry. It lives until its expiry, and no longer at it. Only `Table::grant`,
+//! `Table::restore`, `Table::make_room` and `Table::list_rows` take memory.
 #![tactic(auto)]
 
 mod both;

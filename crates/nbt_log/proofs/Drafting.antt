@@ -1,14 +1,13 @@
 -- A draft of a list, part after part, and its text once it is whole.
-use Rattle.std.proofs.Common.{◌≡◌, ◌≢◌, ◌∙◌, ℕ, ◌<◌, ◌≤◌, ◌-◌, List, [], ◌∷◌, ◌++◌, length, take, drop, refl, sym, ap, subst, inl, inr, append_assoc, append-nil, arith}
+use Rattle.std.proofs.Common.{◌≡◌, ◌∙◌, ℕ, ◌<◌, ◌≤◌, ◌-◌, List, [], ◌∷◌, ◌++◌, length, take, drop, refl, sym, ap, subst, inl, inr, append_assoc, append-nil, arith}
 use Rattle.std.proofs.lemmas.List.{take_all, take-append-drop, take-take}
 use Rattle.std.proofs.lemmas.Slice.{between_is}
 use Rattle.nbt_lease.specs.Lease.{Rows}
 use Rattle.nbt_text.specs.Texts.{PrintsEach, none_printed, one_printed}
-use Rattle.std.specs.Prelude.{◌==◌}
-use Rattle.std.proofs.lemmas.Bool.{cases_lt, cond-true, cond-false, eq-eqb, ne_eqb}
+use Rattle.std.proofs.lemmas.Bool.{cases_lt}
 use Rattle.nbt_log.specs.Hosts.{hosts_head}
 use Rattle.nbt_log.specs.Leases.{list_head}
-use Rattle.nbt_log.specs.Drafts.{DraftValue, IsDraftText, IsListing, IsWhole, noted_at_first, one_part_listed, one_part_more, one_part_noted}
+use Rattle.nbt_log.specs.Drafts.{DraftValue, IsDraftText, IsListing, IsWhole, noted_at_first}
 use Rattle.nbt_log.specs.Inner.Drafting.{IsBegun, Knows, Prints, head_in, listing_in}
 use Rattle.nbt_log.specs.declared.draft.Printer.{Printer}
 use Rattle.nbt_log.specs.declared.draft.Printer.TheVariants.{Leases, Hosts}
@@ -25,7 +24,7 @@ up_to : {A : Type 0} (xs : List A) (a b : ℕ) → a ≤ b → take a xs ++ take
 up_to {A} xs a b less =
     ap (λ (zs : List A). zs ++ take (b - a) (drop a xs)) (sym (take-take a b xs less)) ∙ (ap (λ (zs : List A). take a (take b xs) ++ zs) (between_is xs a b) ∙ take-append-drop a (take b xs))
 
--- nothing is known of more rows than a part has, or all rows are
+-- of nothing, nothing is printed
 nothing_printed : {A : Type 0} (PrintsOne : A → List ℕ → Type 0) (xs : List A) (text : List ℕ) → xs ≡ [] → PrintsEach PrintsOne xs text → text ≡ []
 nothing_printed PrintsOne xs text is none_printed = refl
 nothing_printed PrintsOne xs text is (one_printed first rest here more prints others) = absurd cc
@@ -106,10 +105,3 @@ pub whole_draft : (draft : DraftValue) (printer : Printer) (at : ℕ) (rows : Ro
     → IsBegun printer at rows noted done text → IsDraftText draft text
 whole_draft draft printer at rows noted done text is whole begun =
     subst (λ (d : DraftValue). IsDraftText d text) is (whole_text printer at rows noted done text begun (subst (λ (d : DraftValue). IsWhole d) (sym is) whole))
-
--- a part is listed once all names are noted
-pub listed : (draft : DraftValue) (more : DraftValue) → (one_part_noted draft).noted ≡ length draft.rows → more ≡ one_part_listed (one_part_noted draft) → more ≡ one_part_more draft
-listed draft more all is = is ∙ sym (cond-true ((one_part_noted draft).noted == length draft.rows) (one_part_listed (one_part_noted draft)) (one_part_noted draft) (eq-eqb _ _ all))
-
-pub not_listed : (draft : DraftValue) → (one_part_noted draft).noted ≢ length draft.rows → one_part_noted draft ≡ one_part_more draft
-not_listed draft not = sym (cond-false ((one_part_noted draft).noted == length draft.rows) (one_part_listed (one_part_noted draft)) (one_part_noted draft) (ne_eqb _ _ not))
