@@ -49,3 +49,10 @@ mod Changing
 -- a server at work with its devices
 pub mod Working
 pub mod BareWorking
+-- a server that grants a free name, and a node that asks for one and hears that
+mod Granting
+mod Asking
+-- a network that goes on by these acts, and a new one
+mod Getting
+mod NewWire
+mod Beginning

@@ -61,16 +61,16 @@ reaches_kept l kept (goes_on old mid new before last) = goes_kept l (reaches_kep
 pub own_act : (number : ℕ) (act : Act) (happenings : List Happening) → acts_of number (acts number act ∷ happenings) ≡ act ∷ acts_of number happenings
 own_act number act happenings = ap (λ b. (if b then act ∷ [] else []) ++ acts_of number happenings) (eq-eqb number number refl)
 
-others_act : (number other : ℕ) (act : Act) (happenings : List Happening) → other ≢ number → acts_of number (acts other act ∷ happenings) ≡ acts_of number happenings
+pub others_act : (number other : ℕ) (act : Act) (happenings : List Happening) → other ≢ number → acts_of number (acts other act ∷ happenings) ≡ acts_of number happenings
 others_act number other act happenings ne = ap (λ b. (if b then act ∷ [] else []) ++ acts_of number happenings) (ne_eqb other number ne)
 
 -- ---- a wire, and the world with what its ends know
 
-abbrev filled : WorldValue → Ends → List Datagram → WorldValue
+abbrev pub filled : WorldValue → Ends → List Datagram → WorldValue
 filled wire ends xs = record wire { ends = ends; sent = xs }
 
 -- The ends have the wire's addresses, and what is on the wire was sent in the world, or moves no name.
-record Joins (wire : WorldValue) (ends : Ends) (xs : List Datagram) : Type 0 where
+pub record Joins (wire : WorldValue) (ends : Ends) (xs : List Datagram) : Type 0 where
   pub kept : Invariant (filled wire ends xs)
   pub addrs : (n : ℕ) → addr_of ends n ≡ addr_of wire.ends n
   pub among : AreSentOrMoveNone wire.sent xs
@@ -112,13 +112,13 @@ module _ {wire : WorldValue} {es : Ends} {xs : List Datagram} (joins : Joins wir
 
 -- ---- the lives that are left
 
-record Living (config : ConfigValue) (es : Ends) (server : ServerEnd) (happenings : List Happening) (last : ServerEnd) (hosts : ℕ → Option NodeValue) : Type 0 where
+pub record Living (config : ConfigValue) (es : Ends) (server : ServerEnd) (happenings : List Happening) (last : ServerEnd) (hosts : ℕ → Option NodeValue) : Type 0 where
   pub server_is : es ≡ with_end es server
   pub server_lives : Chain (ServerLives config) server (acts_of 0 happenings) last
   pub hosts_live : (index : ℕ) (at : Addr) → addr_of es (suc index) ≡ Some at → Chain (HostLives config es.server_addr at) (node_of es (suc index)) (acts_of (suc index) happenings) (hosts index)
 
 -- where they lead, from a world
-record Led (config : ConfigValue) (old : WorldValue) (wire : WorldValue) (happenings : List Happening) (last : ServerEnd) (hosts : ℕ → Option NodeValue) : Type 0 where
+pub record Led (config : ConfigValue) (old : WorldValue) (wire : WorldValue) (happenings : List Happening) (last : ServerEnd) (hosts : ℕ → Option NodeValue) : Type 0 where
   pub ends : Ends
   pub written : List Datagram
   pub server : ServerEnd
@@ -245,7 +245,7 @@ pub record AllLaws : Type 0 where
   pub timely : (world : WorldValue) → Invariant world → IsTrue world.kept → IsTrue world.timely
 
 module _ (laws : AllLaws) {config : ConfigValue} {addrs : List Addr} (are : AreAddrs addrs) {happenings : List Happening} {now : WorldValue} {server : ServerEnd} {hosts : ℕ → Option NodeValue} (net : Network config addrs happenings now server hosts) where
-  led : Led config net.first now [] server hosts
+  pub led : Led config net.first now [] server hosts
   led = all_led laws.world net.goes (record {
     ends = net.first.ends;
     written = net.first.sent;

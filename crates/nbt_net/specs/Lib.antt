@@ -13,3 +13,4 @@ pub mod Again
 pub mod Fronts
 pub mod Working
 pub mod BareWorking
+pub mod Getting

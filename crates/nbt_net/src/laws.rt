@@ -26,6 +26,7 @@ ghost use Rattle.nbt_net.specs.Again.{FirstStart, NextStart, StartBeginsARun};
 ghost use Rattle.nbt_net.specs.Clocks.{counted, place_reads};
 ghost use Rattle.nbt_net.specs.Devices.{Call, Story, no_story, AreActs, IsCutAt};
 ghost use Rattle.nbt_net.specs.Fronts.{AreThrough};
+ghost use Rattle.nbt_net.specs.Getting.{NetworkGets, NewNetworkGets};
 ghost use Rattle.nbt_net.specs.Hosting.{HostsAreLived, FailedHostsAreLived};
 ghost use Rattle.nbt_net.specs.Hosts.{HostLives};
 ghost use Rattle.nbt_net.specs.Lives.{Network, NetworkIsARun, NoTwoHold};
@@ -205,4 +206,17 @@ pub fn a_clock_over_another_boot_is_not_ahead()
 {
     nbt_world::laws::a_clock_that_stood_is_not_ahead();
     nbt_store::laws::a_new_clock_begins_at_the_last_time();
+}
+
+/// A network of programs isn't empty, and its hosts get names. From nothing each host gets each name but `*` that it registers, while all clocks keep the drift bound (`anew`). In any network a host
+/// gets a name that is free, where it may ask and the server has room (`gets`): by three acts at one time, of the host, of the server and of the host.
+pub fn a_network_gets_a_free_name()
+    ensures anew { NewNetworkGets }
+    ensures gets { NetworkGets }
+{
+    nbt_packet::laws::written_form_is_read();
+    nbt_world::laws::every_run_is_safe();
+    nbt_world::laws::ids_and_early_refreshes_keep_the_facts();
+    nbt_world::laws::limits_keep_the_facts();
+    nbt_world::laws::facts_of_every_world();
 }
