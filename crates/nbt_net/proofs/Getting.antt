@@ -11,6 +11,7 @@ use Rattle.nbt_name.specs.Wire.{NameValue}
 use Rattle.nbt_packet.specs.declared.message.Registration.{Registration}
 use Rattle.nbt_packet.specs.Message.{registration, registered, IsRegistration}
 use Rattle.nbt_packet.specs.Text.{text}
+use Rattle.nbt_packet.specs.Spelling.{Spells}
 use Rattle.nbt_lease.specs.Config.{ConfigValue, granted}
 use Rattle.nbt_server.specs.Serving.{ServerValue}
 use Rattle.nbt_server.specs.Calls.{ServerTakes}
@@ -99,7 +100,7 @@ pub record Ready (config : ConfigValue) (wire : WorldValue) (server : ServerValu
   pub longest_is : server.table.config.longest ≡ config.longest
   pub longest : node.config.longest ≡ config.longest
 
-no_denial : (server from : Addr) (r : Registration) (seconds : ℕ) → doubted server from (Some (registered 0 r)) (is_granted seconds) ≡ None
+pub no_denial : (server from : Addr) (r : Registration) (seconds : ℕ) → doubted server from (Some (registered 0 r)) (is_granted seconds) ≡ None
 no_denial server from r seconds = by_test (same_end from server)
   where
     by_test : (b : Bool) → (if b && false then Some r.name else None) ≡ None
@@ -167,13 +168,18 @@ module _ (law : WrittenIsRead) {config : ConfigValue} (wire : WorldValue) {serve
       (takes (reading wire.now 0) (route_to at) (text (registration r)) (Some (registered 0 reply)) leased
       (subst (λ (n : ℕ). ServerTakes server (reading wire.now 0) at.ip (text (registration r)) (Some (reply_to n r)) leased) ready.longest_is (grants law server (reading wire.now 0) at.ip r ready.can)))
 
+  pub handles_reply : Handles asked now to (text (registered 0 reply)) got (is_granted (granted_by asked reply)) []
+  handles_reply = subst (λ (a : Addr). Handles asked now a (text (registered 0 reply)) got (is_granted (granted_by asked reply)) []) ready.server_is (hears_grant asked now kind ttl now (opened node.next_id now) reply waits law numbers)
+
+  pub reply_spells : Spells (text (registered 0 reply)) (registered 0 reply)
+  reply_spells = written law (registered 0 reply) numbers (omega arith)
+
   host_hears : HostActs to now asked hearing_act.calls got
   host_hears =
       subst (λ (x : Option NameValue). HostActs to now asked hearing_act.calls (doubting got x)) (no_denial to to reply (granted_by asked reply))
       (hosts.hears hearing_act.calls (notice_of to to (Some (registered 0 reply)) (is_granted (granted_by asked reply))) _
       (hears (route_to to) (text (registered 0 reply)) [] (Some (registered 0 reply)) (is_granted (granted_by asked reply)) got
-      (subst (λ (a : Addr). Handles asked now a (text (registered 0 reply)) got (is_granted (granted_by asked reply)) []) ready.server_is (hears_grant asked now kind ttl now (opened node.next_id now) reply waits law numbers))
-      (written law (registered 0 reply) numbers (omega arith))))
+      handles_reply reply_spells))
 
   -- what of each is on the wire
 

@@ -52,7 +52,10 @@ pub mod BareWorking
 -- a server that grants a free name, and a node that asks for one and hears that
 mod Granting
 mod Asking
--- a network that goes on by these acts, and a new one
+-- a network that goes on by these acts, and what else could come of them
 mod Getting
+mod Surely
+-- a host that can get a name, and a new network with one
+mod Readying
 mod NewWire
 mod Beginning

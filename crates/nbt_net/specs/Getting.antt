@@ -1,13 +1,18 @@
 -- That a host of a network gets a free name (our profile).
-use Rattle.std.specs.Prelude.{◌≡◌, ℕ, suc, List, ◌∷◌, [], ◌++◌, slice_get, Option, Some, IsTrue}
+use Rattle.std.specs.Prelude.{◌≡◌, ℕ, suc, List, [], ◌∷◌, ◌++◌, true, slice_get, Option, Some, IsTrue}
 use Rattle.nbt_name.specs.declared.addr.Addr.{Addr}
 use Rattle.nbt_packet.specs.declared.message.Registration.{Registration}
-use Rattle.nbt_packet.specs.Message.{registration, registered, IsRegistration}
+use Rattle.nbt_packet.specs.Message.{MessageValue, registration, registered, IsRegistration}
 use Rattle.nbt_packet.specs.Text.{text}
 use Rattle.nbt_lease.specs.Config.{ConfigValue, IsConfig, granted}
 use Rattle.nbt_server.specs.Serving.{ServerValue, IsOwn}
-use Rattle.nbt_node.specs.Node.{NodeValue}
-use Rattle.nbt_port.specs.PortCalls.{came, sent, route_to}
+use Rattle.nbt_node.specs.Node.{NodeValue, holds}
+use Rattle.nbt_port.specs.PortCalls.{PortCall, came, sent, route_to}
+use Rattle.nbt_client.specs.declared.turning.Want.{Want}
+use Rattle.nbt_serve.specs.Serving.{is_taken, Turns}
+use Rattle.nbt_host.specs.declared.goal.Goal.{Goal}
+use Rattle.nbt_host.specs.declared.news.Notice.{Notice}
+use Rattle.nbt_host.specs.Hosting.{is_wanted, Requests, HostHears}
 use Rattle.nbt_world.specs.Drift.{reading}
 use Rattle.nbt_world.specs.World.{WorldValue, AreAddrs, addr_of, with_node}
 use Rattle.nbt_world.specs.Getting.{CanGet}
@@ -15,6 +20,8 @@ use Rattle.nbt_net.specs.Wire.{Happening, acts}
 use Rattle.nbt_net.specs.Servers.{ServerEnd, up}
 use Rattle.nbt_net.specs.Lives.{Network, holds_now}
 use Rattle.nbt_net.specs.Reaching.{with_end}
+
+-- ---- from nothing
 
 -- All at one time the host sends a registration, the server receives it and sends its grant of so many seconds, and the host receives that.
 abbrev pub getting : (wire : WorldValue) → (index : ℕ) → (at : Addr) → Registration → (seconds : ℕ) → List Happening
@@ -30,19 +37,49 @@ pub record Gets (config : ConfigValue) (addrs : List Addr) (before : List Happen
   pub hosts : ℕ → Option NodeValue
   pub net : Network config addrs (before ++ getting wire index at r (granted config.longest r.ttl)) now server hosts
   pub at_once : now ≡ record wire { sent = now.sent }
-  pub holds : holds_now now hosts index r.name ≡ Some r.kind
+  pub holds_it : holds_now now hosts index r.name ≡ Some r.kind
 
--- From nothing, and while all clocks keep the drift bound, each host gets each name but `*` that it registers.
+-- From nothing each host gets each name but `*` that it registers, and all clocks have kept the drift bound.
 abbrev pub NewNetworkGets : Type 0
 NewNetworkGets = (config : ConfigValue) (addrs : List Addr) (index : ℕ) (at : Addr) (r : Registration) → IsConfig config → AreAddrs addrs → slice_get addrs (suc index) ≡ Some at → IsRegistration r → IsOwn at.ip r.name r.addr
     → (before : List Happening) × (wire : WorldValue) × IsTrue wire.kept × Gets config addrs before wire index at r
 
--- the world of a wire, where this is the server, and this the host of this place
-abbrev pub world_with : (wire : WorldValue) → ServerEnd → (index : ℕ) → NodeValue → WorldValue
-world_with wire server index node = record wire { ends = with_node (with_end wire.ends server) (suc index) (Some node) }
+-- ---- in any network
 
--- In any network a host gets a name that it can get.
+-- the world of a wire, where this is the server, and this the host of this place
+abbrev pub world_with : (wire : WorldValue) → ServerValue → (index : ℕ) → NodeValue → WorldValue
+world_with wire server index node = record wire { ends = with_node (with_end wire.ends (up server)) (suc index) (Some node) }
+
+-- In a network whose server is up a host is up that can get a name, and this is the registration that it sends for it next.
+pub record HostCanGet (config : ConfigValue) (addrs : List Addr) (before : List Happening) (wire : WorldValue) (server : ServerValue) (hosts : ℕ → Option NodeValue) (index : ℕ) (at : Addr) (node : NodeValue) (r : Registration) : Type 0 where
+  pub are_addrs : AreAddrs addrs
+  pub net : Network config addrs before wire (up server) hosts
+  pub host_at : addr_of wire.ends (suc index) ≡ Some at
+  pub host_is : hosts index ≡ Some node
+  pub can : CanGet (world_with wire server index node) (suc index) r.name
+  pub numbers : IsRegistration r
+  pub addr_is : r.addr ≡ at.ip
+  pub id_is : r.id ≡ node.next_id
+
+-- The network may go on so that the host gets the name.
 abbrev pub NetworkGets : Type 0
 NetworkGets = (config : ConfigValue) (addrs : List Addr) (before : List Happening) (wire : WorldValue) (server : ServerValue) (hosts : ℕ → Option NodeValue) (index : ℕ) (at : Addr) (node : NodeValue) (r : Registration)
-    → AreAddrs addrs → Network config addrs before wire (up server) hosts → addr_of wire.ends (suc index) ≡ Some at → hosts index ≡ Some node → CanGet (world_with wire (up server) index node) (suc index) r.name
-    → IsRegistration r → r.addr ≡ at.ip → r.id ≡ node.next_id → Gets config addrs before wire index at r
+    → HostCanGet config addrs before wire server hosts index at node r → Gets config addrs before wire index at r
+
+-- what a host wants that sends this
+abbrev pub wanted_by : Registration → Want
+wanted_by r = record { name = r.name; kind = r.kind; ttl = r.ttl }
+
+-- The server replies, and whatever that makes of the host that hears it, the host holds the name.
+pub record IsGot (wire : WorldValue) (index : ℕ) (asked : NodeValue) (r : Registration) (reply : Option MessageValue) : Type 0 where
+  pub message : MessageValue
+  pub reply_is : reply ≡ Some message
+  pub holds_it : (calls : List PortCall) (notice : Option Notice) (new : NodeValue)
+      → HostHears wire.ends.server_addr (reading wire.now (suc index)) asked (came (route_to wire.ends.server_addr) (text message) ∷ calls) notice new → holds new r.name (reading wire.now (suc index)) ≡ Some r.kind
+
+-- It cannot go on otherwise: whatever its request makes of the host, and whatever a turn in which that comes and memory isn't refused makes of the server, the host gets the name.
+abbrev pub RequestGets : Type 0
+RequestGets = (config : ConfigValue) (addrs : List Addr) (before : List Happening) (wire : WorldValue) (server : ServerValue) (hosts : ℕ → Option NodeValue) (index : ℕ) (at : Addr) (node : NodeValue) (r : Registration)
+    → HostCanGet config addrs before wire server hosts index at node r
+    → (goal : Goal) (octets : List ℕ) (asked : NodeValue) → goal.want ≡ wanted_by r → is_wanted goal.stage ≡ true → Requests (reading wire.now (suc index)) node goal (Some octets) asked
+    → (reply : Option MessageValue) (after : ServerValue) → Turns server (is_taken (reading wire.now 0) (route_to at) octets reply) after → IsGot wire index asked r reply

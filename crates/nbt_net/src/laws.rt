@@ -26,7 +26,7 @@ ghost use Rattle.nbt_net.specs.Again.{FirstStart, NextStart, StartBeginsARun};
 ghost use Rattle.nbt_net.specs.Clocks.{counted, place_reads};
 ghost use Rattle.nbt_net.specs.Devices.{Call, Story, no_story, AreActs, IsCutAt};
 ghost use Rattle.nbt_net.specs.Fronts.{AreThrough};
-ghost use Rattle.nbt_net.specs.Getting.{NetworkGets, NewNetworkGets};
+ghost use Rattle.nbt_net.specs.Getting.{NetworkGets, NewNetworkGets, RequestGets};
 ghost use Rattle.nbt_net.specs.Hosting.{HostsAreLived, FailedHostsAreLived};
 ghost use Rattle.nbt_net.specs.Hosts.{HostLives};
 ghost use Rattle.nbt_net.specs.Lives.{Network, NetworkIsARun, NoTwoHold};
@@ -208,13 +208,17 @@ pub fn a_clock_over_another_boot_is_not_ahead()
     nbt_store::laws::a_new_clock_begins_at_the_last_time();
 }
 
-/// A network of programs isn't empty, and its hosts get names. From nothing each host gets each name but `*` that it registers, while all clocks keep the drift bound (`anew`). In any network a host
-/// gets a name that is free, where it may ask and the server has room (`gets`): by three acts at one time, of the host, of the server and of the host.
+/// A network of programs isn't empty: from nothing each host gets each name but `*` that it registers, while all clocks keep the drift bound (`anew`). In any network a host that can get a name gets it
+/// by three acts at one time, its own, the server's and its own (`gets`); and nothing else can come of its request, unless the server was out of memory for it (`surely`).
 pub fn a_network_gets_a_free_name()
     ensures anew { NewNetworkGets }
     ensures gets { NetworkGets }
+    ensures surely { RequestGets }
 {
     nbt_packet::laws::written_form_is_read();
+    nbt_packet::laws::one_message_spelled();
+    nbt_server::laws::one_reply();
+    nbt_node::laws::one_answer();
     nbt_world::laws::every_run_is_safe();
     nbt_world::laws::ids_and_early_refreshes_keep_the_facts();
     nbt_world::laws::limits_keep_the_facts();

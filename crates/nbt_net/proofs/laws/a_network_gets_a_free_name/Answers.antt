@@ -2,7 +2,8 @@ use Rattle.std.proofs.Common.{[], ◌∷◌}
 use Rattle.std.proofs.lemmas.Option.{none-some}
 use Rattle.nbt_net.specs.Getting.{NewNetworkGets}
 use Rattle.nbt_net.proofs.Lives.{AllLaws}
-use Rattle.nbt_net.proofs.Beginning.{gets, gets_anew}
+use Rattle.nbt_net.proofs.Readying.{gets, is_got}
+use Rattle.nbt_net.proofs.Beginning.{gets_anew}
 use Rattle.nbt_net.proofs.laws.a_network_gets_a_free_name.Goals as goal
 
 all : (c : goal.After-facts_of_every_world) → AllLaws
@@ -28,4 +29,8 @@ returns-clause-anew c = λ config addrs index at r. anew config addrs index at r
     anew config (server ∷ others) index at r limits are at_is numbers own = gets_anew (all c) c.written_form_is_read.ensures.spells config server others index at r limits are at_is numbers own
 
 pub returns-clause-gets : goal.returns-clause-gets
-returns-clause-gets c = λ config addrs before wire server hosts index at node r are net host_at is_up can numbers own id_is. gets (all c) c.written_form_is_read.ensures.spells r are net host_at is_up can numbers own id_is
+returns-clause-gets c = λ config addrs before wire server hosts index at node r h. gets (all c) c.written_form_is_read.ensures.spells r h
+
+pub returns-clause-surely : goal.returns-clause-surely
+returns-clause-surely c = λ config addrs before wire server hosts index at node r h. is_got (all c) c.written_form_is_read.ensures.spells r h
+    (record { sending = c.one_answer.ensures.sending; handling = c.one_answer.ensures.handling; reply = c.one_reply.ensures; message = c.one_message_spelled.ensures })
