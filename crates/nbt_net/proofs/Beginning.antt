@@ -24,9 +24,9 @@ use Rattle.nbt_net.specs.Hosts as hosts
 use Rattle.nbt_net.specs.Lives.{Network}
 use Rattle.nbt_net.specs.Reaching.{with_end}
 use Rattle.nbt_net.specs.Getting.{Gets, world_with}
-use Rattle.nbt_net.proofs.Lives.{AllLaws, own_act, others_act}
+use Rattle.nbt_net.proofs.Lives.{AllLaws, own_act, others_act, no_zero, no_suc}
 use Rattle.nbt_net.proofs.Granting.{WrittenIsRead}
-use Rattle.nbt_net.proofs.Getting.{with_host, host_here, GoesOn, network_on, zero_no_suc, suc_no_zero}
+use Rattle.nbt_net.proofs.Getting.{with_host, host_here, GoesOn, network_on}
 use Rattle.nbt_net.proofs.Readying.{gets}
 use Rattle.nbt_net.proofs.NewWire.{new_wire, later_wire, new_is_fresh, reads_at, all_go_on}
 
@@ -76,10 +76,10 @@ module _ (laws : AllLaws) (law : WrittenIsRead) (config : ConfigValue) (server :
     goes = goes_on first first later (acts 0 (act_at 0)) second _ (end_acts 0 server (act_at 0) refl refl tt)
         (goes_on first first later (acts (suc index) (act_at 0)) third _ (end_acts (suc index) at (act_at 0) here refl tt)
         (goes_on first later later (clocks_go_on waited (map (λ (_ : Addr). waited) (server ∷ others))) [] _ (time_passes waited (map (λ (_ : Addr). waited) (server ∷ others)) later (all_go_on config server others waited (omega arith))) (ends later)));
-    server_lives = subst (λ (own : List Act). Chain (ServerLives config) never_up own (up (new_server config))) (sym (own_act 0 (act_at 0) second ∙ ap (λ (rest : List Act). act_at 0 ∷ rest) (others_act 0 (suc index) (act_at 0) third suc_no_zero)))
+    server_lives = subst (λ (own : List Act). Chain (ServerLives config) never_up own (up (new_server config))) (sym (own_act 0 (act_at 0) second ∙ ap (λ (rest : List Act). act_at 0 ∷ rest) (others_act 0 (suc index) (act_at 0) third no_suc)))
         (up (new_server config), starts 0 (new_server config) (record { start = refl; last = refl; config_is = refl; empty = refl; no_limit = refl }), refl);
-    host_lives = subst (λ (own : List Act). Chain (HostLives config server at) None own (Some node)) (sym (others_act (suc index) 0 (act_at 0) second zero_no_suc ∙ own_act (suc index) (act_at 0) third)) (Some node, hosts.starts 0 r.id, refl);
-    others = λ i ne. others_act (suc i) 0 (act_at 0) second zero_no_suc ∙ others_act (suc i) (suc index) (act_at 0) third (λ e. ne (sym (ap pred e)));
+    host_lives = subst (λ (own : List Act). Chain (HostLives config server at) None own (Some node)) (sym (others_act (suc index) 0 (act_at 0) second no_zero ∙ own_act (suc index) (act_at 0) third)) (Some node, hosts.starts 0 r.id, refl);
+    others = λ i ne. others_act (suc i) 0 (act_at 0) second no_zero ∙ others_act (suc i) (suc index) (act_at 0) third (λ e. ne (sym (ap pred e)));
   }
 
   begun : Network config (server ∷ others) beginning later (up (new_server config)) (with_host (λ (_ : ℕ). None) index node)

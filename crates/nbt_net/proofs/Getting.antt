@@ -1,5 +1,5 @@
 -- Three acts by which a host gets a free name.
-use Rattle.std.proofs.Common.{◌≡◌, ◌≢◌, ℕ, zero, suc, pred, Bool, true, false, ◌&&◌, if◌then◌else◌, List, [], ◌∷◌, ◌++◌, Option, Some, None, refl, sym, ap, subst, ◌∙◌, inl, inr, arith}
+use Rattle.std.proofs.Common.{◌≡◌, ◌≢◌, ℕ, suc, pred, Bool, true, false, ◌&&◌, if◌then◌else◌, List, [], ◌∷◌, ◌++◌, Option, Some, None, refl, sym, ap, subst, ◌∙◌, inl, inr, arith}
 use Rattle.std.specs.Prelude.{◌⊎◌, nat_eq}
 use Rattle.std.proofs.lemmas.Bool.{cases_eq, eq-eqb, ne_eqb}
 use Rattle.std.proofs.lemmas.Grind.{flat_map-append}
@@ -37,7 +37,7 @@ use Rattle.nbt_net.specs.Hosts.{HostActs, HostLives, requests, does}
 use Rattle.nbt_net.specs.Hosts as hosts
 use Rattle.nbt_net.specs.Lives.{Network}
 use Rattle.nbt_net.specs.Getting.{getting}
-use Rattle.nbt_net.proofs.Lives.{own_act, others_act}
+use Rattle.nbt_net.proofs.Lives.{own_act, others_act, no_zero, no_suc}
 use Rattle.nbt_net.proofs.Granting.{WrittenIsRead, written, CanGrant, reply_to, with_lease, grants, reply_numbers}
 use Rattle.nbt_net.proofs.Asking.{wish, asked_node, granted_node, Waits, sends_wish, asked_apart, asked_state, hears_grant, holds_granted}
 
@@ -106,12 +106,6 @@ no_denial server from r seconds = by_test (same_end from server)
     by_test : (b : Bool) → (if b && false then Some r.name else None) ≡ None
     by_test true = refl
     by_test false = refl
-
-pub zero_no_suc : {i : ℕ} → zero ≢ suc i
-zero_no_suc e = absurd cc
-
-pub suc_no_zero : {i : ℕ} → suc i ≢ zero
-suc_no_zero e = absurd cc
 
 module _ (law : WrittenIsRead) {config : ConfigValue} (wire : WorldValue) {server : ServerValue} (index : ℕ) (at : Addr) {node : NodeValue} {name : NameValue} {kind : Kind} {ttl : ℕ} (ready : Ready config wire server index at node name kind ttl) where
   abbrev now : ℕ
@@ -219,15 +213,15 @@ module _ (law : WrittenIsRead) {config : ConfigValue} (wire : WorldValue) {serve
   all = acts (suc index) request_act ∷ last_two
 
   of_server : acts_of 0 all ≡ server_act ∷ []
-  of_server = others_act 0 (suc index) request_act last_two suc_no_zero ∙ own_act 0 server_act last_one ∙ ap (λ (rest : List Act). server_act ∷ rest) (others_act 0 (suc index) hearing_act [] suc_no_zero)
+  of_server = others_act 0 (suc index) request_act last_two no_suc ∙ own_act 0 server_act last_one ∙ ap (λ (rest : List Act). server_act ∷ rest) (others_act 0 (suc index) hearing_act [] no_suc)
 
   of_host : acts_of (suc index) all ≡ request_act ∷ hearing_act ∷ []
-  of_host = own_act (suc index) request_act last_two ∙ ap (λ (rest : List Act). request_act ∷ rest) (others_act (suc index) 0 server_act last_one zero_no_suc ∙ own_act (suc index) hearing_act [])
+  of_host = own_act (suc index) request_act last_two ∙ ap (λ (rest : List Act). request_act ∷ rest) (others_act (suc index) 0 server_act last_one no_zero ∙ own_act (suc index) hearing_act [])
 
   of_none : (i : ℕ) → i ≢ index → acts_of (suc i) all ≡ []
   of_none i ne =
       let other : suc index ≢ suc i = λ e. ne (sym (ap pred e)) in
-      others_act (suc i) (suc index) request_act last_two other ∙ others_act (suc i) 0 server_act last_one zero_no_suc ∙ others_act (suc i) (suc index) hearing_act [] other
+      others_act (suc i) (suc index) request_act last_two other ∙ others_act (suc i) 0 server_act last_one no_zero ∙ others_act (suc i) (suc index) hearing_act [] other
 
   pub three_acts : {host : Option NodeValue} → host ≡ Some node → GoesOn config wire (up server) host index at (getting wire index at r (granted config.longest ttl)) three (up leased) got
   three_acts {host} is = record {

@@ -127,10 +127,10 @@ pub record Led (config : ConfigValue) (old : WorldValue) (wire : WorldValue) (ha
   pub living : Living config ends server happenings last hosts
   pub reached : Reaches old (filled wire ends written)
 
-no_zero : {i : ℕ} → zero ≢ suc i
+pub no_zero : {i : ℕ} → zero ≢ suc i
 no_zero e = absurd cc
 
-no_suc : {i : ℕ} → suc i ≢ zero
+pub no_suc : {i : ℕ} → suc i ≢ zero
 no_suc e = absurd cc
 
 module _ (laws : WorldLaws) {config : ConfigValue} {old wire : WorldValue} {last : ServerEnd} {hosts : ℕ → Option NodeValue} where

@@ -6,24 +6,21 @@ use Rattle.std.proofs.lemmas.Option.{same_Some}
 use Rattle.nbt_name.specs.declared.addr.Addr.{Addr}
 use Rattle.nbt_name.specs.Wire.{NameValue}
 use Rattle.nbt_packet.specs.declared.message.Registration.{Registration}
-use Rattle.nbt_packet.specs.Message.{IsRegistration}
-use Rattle.nbt_lease.specs.Config.{ConfigValue, IsLongest}
+use Rattle.nbt_packet.specs.Message.{MessageValue, registered, IsRegistration}
+use Rattle.nbt_packet.specs.Text.{text}
+use Rattle.nbt_lease.specs.Config.{ConfigValue, IsLongest, granted, milliseconds}
 use Rattle.nbt_lease.specs.Drift.{quiet}
-use Rattle.nbt_lease.specs.Lease.{leases_at, live_count, count_of}
+use Rattle.nbt_lease.specs.Lease.{leases_at, live_count, count_of, AreSound, IsSound}
 use Rattle.nbt_server.specs.Serving.{ServerValue, speaks_from}
 use Rattle.nbt_node.specs.declared.state.State.TheVariants.{Idle}
 use Rattle.nbt_node.specs.declared.state.Slot.{Slot}
 use Rattle.nbt_node.specs.Node.{NodeValue, has_room, slot_of, settled_slot, state_at}
 use Rattle.nbt_node.specs.Settling.{settled}
 use Rattle.nbt_node.specs.Calls.{ask_refusal}
-use Rattle.nbt_packet.specs.Message.{MessageValue, registered}
-use Rattle.nbt_packet.specs.Text.{text}
-use Rattle.nbt_lease.specs.Lease.{AreSound, IsSound}
-use Rattle.nbt_lease.specs.Config.{granted, milliseconds}
+use Rattle.nbt_port.specs.PortCalls.{came, route_to}
 use Rattle.nbt_serve.specs.Serving.{is_taken, Turns}
 use Rattle.nbt_host.specs.declared.goal.Goal.{Goal}
 use Rattle.nbt_host.specs.Hosting.{is_wanted, Requests, HostHears}
-use Rattle.nbt_port.specs.PortCalls.{came, route_to}
 use Rattle.nbt_world.specs.declared.ends.Ends.{Ends}
 use Rattle.nbt_world.specs.Drift.{reading}
 use Rattle.nbt_world.specs.World.{WorldValue, addr_of}
