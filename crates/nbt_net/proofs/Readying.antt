@@ -126,7 +126,7 @@ module _ (laws : AllLaws) (law : WrittenIsRead) {config : ConfigValue} {addrs : 
     server = up (leased law wire index at ready);
     hosts = with_host hosts index (got law wire index at ready);
     net = network_on h.net (ap (λ (e : Ends). e.server_addr) (sym (ends_stay h.net.goes))) (ap (λ (e : Ends). addr_of e (suc index)) (sym (ends_stay h.net.goes)) ∙ h.host_at) (three_acts law wire index at ready h.host_is);
-    at_once = refl;
+    stays = refl;
     holds_it = ap (λ (x : Option NodeValue). held_by x r.name (reading wire.now (suc index))) (host_here hosts index (got law wire index at ready)) ∙ then_holds law wire index at ready;
   }
 

@@ -23,20 +23,20 @@ use Rattle.nbt_net.specs.Reaching.{with_end}
 
 -- ---- from nothing
 
--- All at one time the host sends a registration, the server receives it and sends its grant of so many seconds, and the host receives that.
+-- All at one time the host sends a registration, the server receives it and sends its grant of so many seconds, and the host receives that
 abbrev pub getting : (wire : WorldValue) → (index : ℕ) → (at : Addr) → Registration → (seconds : ℕ) → List Happening
 getting wire index at r seconds =
     acts (suc index) (record { now = reading wire.now (suc index); calls = sent (route_to wire.ends.server_addr) (text (registration r)) ∷ [] })
     ∷ acts 0 (record { now = reading wire.now 0; calls = came (route_to at) (text (registration r)) ∷ sent (route_to at) (text (registered 0 (record r { ttl = seconds }))) ∷ [] })
     ∷ acts (suc index) (record { now = reading wire.now (suc index); calls = came (route_to wire.ends.server_addr) (text (registered 0 (record r { ttl = seconds }))) ∷ [] }) ∷ []
 
--- After what happened before, the network goes on so, at the time of this wire, and then the host holds the name.
+-- After all that happened before, these three acts happen, and then the host holds the name. But for what was sent the wire stays as it is.
 pub record Gets (config : ConfigValue) (addrs : List Addr) (before : List Happening) (wire : WorldValue) (index : ℕ) (at : Addr) (r : Registration) : Type 0 where
   pub now : WorldValue
   pub server : ServerEnd
   pub hosts : ℕ → Option NodeValue
   pub net : Network config addrs (before ++ getting wire index at r (granted config.longest r.ttl)) now server hosts
-  pub at_once : now ≡ record wire { sent = now.sent }
+  pub stays : now ≡ record wire { sent = now.sent }
   pub holds_it : holds_now now hosts index r.name ≡ Some r.kind
 
 -- From nothing each host gets each name but `*` that it registers, and all clocks have kept the drift bound.
@@ -50,7 +50,7 @@ NewNetworkGets = (config : ConfigValue) (addrs : List Addr) (index : ℕ) (at : 
 abbrev pub world_with : (wire : WorldValue) → ServerValue → (index : ℕ) → NodeValue → WorldValue
 world_with wire server index node = record wire { ends = with_node (with_end wire.ends (up server)) (suc index) (Some node) }
 
--- In a network whose server is up a host is up that can get a name, and this is the registration that it sends for it next.
+-- In a network whose server is up a host is up too, and can get a name. By this registration it requests the name next: it has the host's address and its next id.
 pub record HostCanGet (config : ConfigValue) (addrs : List Addr) (before : List Happening) (wire : WorldValue) (server : ServerValue) (hosts : ℕ → Option NodeValue) (index : ℕ) (at : Addr) (node : NodeValue) (r : Registration) : Type 0 where
   pub are_addrs : AreAddrs addrs
   pub net : Network config addrs before wire (up server) hosts
@@ -61,23 +61,23 @@ pub record HostCanGet (config : ConfigValue) (addrs : List Addr) (before : List 
   pub addr_is : r.addr ≡ at.ip
   pub id_is : r.id ≡ node.next_id
 
--- The network may go on so that the host gets the name.
+-- Such a network may go on so that the host gets the name.
 abbrev pub NetworkGets : Type 0
 NetworkGets = (config : ConfigValue) (addrs : List Addr) (before : List Happening) (wire : WorldValue) (server : ServerValue) (hosts : ℕ → Option NodeValue) (index : ℕ) (at : Addr) (node : NodeValue) (r : Registration)
     → HostCanGet config addrs before wire server hosts index at node r → Gets config addrs before wire index at r
 
--- what a host wants that sends this
+-- what a host wants that sends this registration
 abbrev pub wanted_by : Registration → Want
 wanted_by r = record { name = r.name; kind = r.kind; ttl = r.ttl }
 
--- The server replies, and whatever that makes of the host that hears it, the host holds the name.
+-- The server replied, and whatever the reply makes of the host that hears it, the host holds the name.
 pub record IsGot (wire : WorldValue) (index : ℕ) (asked : NodeValue) (r : Registration) (reply : Option MessageValue) : Type 0 where
   pub message : MessageValue
   pub reply_is : reply ≡ Some message
   pub holds_it : (calls : List PortCall) (notice : Option Notice) (new : NodeValue)
       → HostHears wire.ends.server_addr (reading wire.now (suc index)) asked (came (route_to wire.ends.server_addr) (text message) ∷ calls) notice new → holds new r.name (reading wire.now (suc index)) ≡ Some r.kind
 
--- It cannot go on otherwise: whatever its request makes of the host, and whatever a turn in which that comes and memory isn't refused makes of the server, the host gets the name.
+-- Nothing else can come of the request: whatever it makes of the host, and whatever the turn in which it comes makes of the server, unless memory is refused in it, the host gets the name.
 abbrev pub RequestGets : Type 0
 RequestGets = (config : ConfigValue) (addrs : List Addr) (before : List Happening) (wire : WorldValue) (server : ServerValue) (hosts : ℕ → Option NodeValue) (index : ℕ) (at : Addr) (node : NodeValue) (r : Registration)
     → HostCanGet config addrs before wire server hosts index at node r
