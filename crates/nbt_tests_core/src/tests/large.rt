@@ -92,24 +92,25 @@ fn limits_of_many_rows(rt: HostRuntime) {
 }
 
 /// How many rows a table has, those that are over too.
-fn count_rows<R: Abort + AllocGlobal>(rt: &R, table: &Table) -> u32 {
+fn count_rows<R: Abort + AllocGlobal>(rt: &R, table: &Table) -> usize {
     let mut rows = Vec::new(rt.alloc());
     table.list_rows(&mut rows).expect(rt, "memory");
-    rows.len() as u32
+    rows.len()
 }
 
 /// A grant and a release remove 64 rows that are over, and their own, and no more.
 fn expect_few_removed<R: Abort + AllocGlobal>(rt: &R, table: &mut Table, rows: u32) {
+    let stand = |gone| (rows as usize).saturating_sub(gone);
     let none = grant(rt, table, OVER, rows, rows);
     expect_eq_in(rt, &rows, &none, &None);
-    expect_eq_in(rt, &rows, &count_rows(rt, table), &(rows - 64 + 1));
+    expect_eq_in(rt, &rows, &count_rows(rt, table), &stand(64 - 1));
     let none = grant(rt, table, OVER, 1_000, 1_000);
     expect_eq_in(rt, &rows, &none, &None);
-    expect_eq_in(rt, &rows, &count_rows(rt, table), &(rows - 128 + 1));
+    expect_eq_in(rt, &rows, &count_rows(rt, table), &stand(128 - 1));
     let now = later(rt, table, OVER);
     let gone = table.release(now, &numbered(rt, 2_000), 2_000);
     expect_eq_in(rt, &rows, &gone, &Released::NoLease);
-    expect_eq_in(rt, &rows, &count_rows(rt, table), &(rows - 192));
+    expect_eq_in(rt, &rows, &count_rows(rt, table), &stand(192));
 }
 
 #[test]
@@ -177,7 +178,7 @@ fn address_space<R: Abort + AllocGlobal + Files>(rt: &R) -> u64 {
         .next()
         .and_then(|word| word.parse().ok())
         .expect(rt, "a number of pages");
-    4_096 * pages
+    pages.saturating_mul(4_096)
 }
 
 /// Room for all rows is taken at once, once: a name has 237 octets at least. What the table had stays, and its calls are as before.
@@ -191,7 +192,7 @@ fn a_table_takes_room_for_all_its_rows(rt: HostRuntime) {
     let before = address_space(&rt);
     let keys = RandomState::new(&rt).expect(&rt, "random octets");
     table.make_room(keys).expect(&rt, "memory");
-    let room = address_space(&rt) - before;
+    let room = address_space(&rt).saturating_sub(before);
     expect(&rt, 1_048_576 * 237 < room && room < 1_048_576 * 474);
     for number in 0..200 {
         let wanted = (number < 100).then_some(GrantFault::Active);
@@ -203,7 +204,7 @@ fn a_table_takes_room_for_all_its_rows(rt: HostRuntime) {
         );
     }
     expect_eq(&rt, &count_rows(&rt, &table), &200);
-    expect_eq(&rt, &address_space(&rt), &(before + room));
+    expect_eq(&rt, &address_space(&rt), &before.saturating_add(room));
 }
 
 /// Has an address lease a number's name. Where memory is refused for that the same call is made once more.
