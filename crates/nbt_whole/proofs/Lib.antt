@@ -4,3 +4,9 @@
 mod Unfolded
 -- and so is a whole one, from its start to its end
 mod Whole
+-- what is shown of some turns, and then of others
+mod Showing
+-- a server that stays up is watched, one thing after another
+mod Watching
+-- and so is a whole one
+mod Overall

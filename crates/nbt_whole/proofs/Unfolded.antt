@@ -28,17 +28,17 @@ use Rattle.nbt_whole.specs.Nbns.{bare_of}
 
 -- ---- a state neither comes nor goes
 
-by_none : {S : Type 0} (without : Type 0) (within : State S → State S → Type 0) (old new : Option (State S)) → ByState without within old new → old ≡ None → without × (new ≡ None)
+pub by_none : {S : Type 0} (without : Type 0) (within : State S → State S → Type 0) (old new : Option (State S)) → ByState without within old new → old ≡ None → without × (new ≡ None)
 by_none without within None None h is = (h, refl)
 by_none without within None (Some t) h is = absurd h
 by_none without within (Some s) new h is = absurd cc
 
-record StillThere {S : Type 0} (within : State S → State S → Type 0) (s : State S) (new : Option (State S)) : Type 0 where
+pub record StillThere {S : Type 0} (within : State S → State S → Type 0) (s : State S) (new : Option (State S)) : Type 0 where
   pub state : State S
   pub there : new ≡ Some state
   pub holds : within s state
 
-by_some : {S : Type 0} (without : Type 0) (within : State S → State S → Type 0) (old new : Option (State S)) (s : State S) → ByState without within old new → old ≡ Some s → StillThere within s new
+pub by_some : {S : Type 0} (without : Type 0) (within : State S → State S → Type 0) (old new : Option (State S)) (s : State S) → ByState without within old new → old ≡ Some s → StillThere within s new
 by_some without within None new s h is = absurd cc
 by_some without within (Some x) None s h is = absurd h
 by_some {S} without within (Some x) (Some t) s h is = record { state = t; there = refl; holds = subst (λ (y : State S). within y t) (same_Some x s is) h }

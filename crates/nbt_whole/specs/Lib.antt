@@ -1,1 +1,2 @@
 pub mod Nbns
+pub mod Watched

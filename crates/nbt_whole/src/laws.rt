@@ -1,6 +1,7 @@
-//! A whole name server lives in a network: the law is the contract of a function that does nothing.
+//! A whole name server lives in a network, and is watched: each law is the contract of a function that does nothing.
 
 ghost use Rattle.nbt_whole.specs.Nbns.{NbnsAreLived, FailedNbnsAreLived, KeptAreLived, FailedKeptAreLived};
+ghost use Rattle.nbt_whole.specs.Watched.{NbnsAreWatched, FailedNbnsAreWatched, KeptAreWatched, FailedKeptAreWatched};
 
 /// What the contract of [`nbt_nbns::run_nbns`] says of a server without a state is a life of it, from its first call to its last: until its time is over
 /// (`bare`), or until its port fails for good (`bare_failed`). So is what `RunsKept`, which is of the contract of [`nbt_nbns::run_server`], says of a
@@ -16,3 +17,14 @@ pub fn a_whole_server_is_lived()
 {
     nbt_net::laws::a_server_lives_over_any_number_of_crashes();
 }
+
+/// The journal of a name server, which is its log, its lists and its statistics, is shown the turns of the server. Without a state it is shown the entry of each
+/// turn that goes well, in their order and none else, until its time is over (`bare`) or its port fails for good (`bare_failed`). With a state each entry that
+/// it is shown is that of a turn before it, each once and in their order (`kept`, `kept_failed`); the others are left out, or not shown yet in the end. It is
+/// shown the server as it is by then, and each showing is what the journal's contract says.
+pub fn a_server_is_watched_in_turn()
+    ensures bare { NbnsAreWatched }
+    ensures bare_failed { FailedNbnsAreWatched }
+    ensures kept { KeptAreWatched }
+    ensures kept_failed { FailedKeptAreWatched }
+{}
