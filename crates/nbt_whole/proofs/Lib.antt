@@ -10,3 +10,5 @@ mod Showing
 mod Watching
 -- and so is a whole one
 mod Overall
+-- what is said after any events
+mod Saying

@@ -9,12 +9,13 @@ use Rattle.nbt_serve.specs.Sharing.{share_of}
 use Rattle.nbt_serve.specs.Waiting.{none_waits}
 use Rattle.nbt_nbns.specs.Folders.{FolderDoes}
 use Rattle.nbt_nbns.specs.Running.{Nbns, PortDoes, PortFailures, StartsAnew}
-use Rattle.nbt_nbns.specs.Servers.{StartsKept, kept_at_first}
+use Rattle.nbt_nbns.specs.Servers.{StartsKept, dates_of}
 use Rattle.nbt_nbns.specs.declared.arguments.NbnsArguments.{NbnsArguments}
 use Rattle.nbt_nbns.specs.declared.arguments.StateFolder.{StateFolder}
 use Rattle.nbt_nbns.specs.declared.first_line.Manner.{Manner}
 use Rattle.nbt_nbns.specs.declared.state.State.{State}
 use Rattle.nbt_whole.specs.Watched.{watched_of, IsToldInTurn, NbnsIsWatched, KeptIsWatched, NbnsAreWatched, FailedNbnsAreWatched, KeptAreWatched, FailedKeptAreWatched}
+use Rattle.nbt_whole.specs.Said.{IsNew, RunsBeginNew}
 use Rattle.nbt_whole.proofs.Showing.{entries_of}
 use Rattle.nbt_whole.proofs.Watching.{bare_stayed, bare_ended, Went, stayed, ended_early}
 
@@ -46,3 +47,10 @@ kept_are_watched a state old_text text ran = kept_watched a ran.first ran.last r
 pub failed_kept_are_watched : FailedKeptAreWatched
 failed_kept_are_watched a state cause old_text text ran = kept_watched a ran.first ran.last ran.begins.begun
     (ended_early (PortDoes a.strict) PortFailures FolderDoes (TellsAhead (SteadyTells SystemShows)) (until_of ran.first.served.server.last a.time) cause ran.first ran.last ran.goes_on _ (some_state a state ran.first ran.manner ran.begins))
+
+-- a run begins with a new journal
+pub runs_begin_new : RunsBeginNew
+runs_begin_new = record {
+  bare = λ a manner first s. record { a = a; dates = record { moment = s.start; time = s.time }; day = s.time; start = s.start; journal_is = ap (λ (here : Nbns ℕ). here.watcher) s.first_is };
+  kept = λ a state manner first s. record { a = a; dates = dates_of s.begun s.told.time; day = 0; start = s.begun.start; journal_is = ap (λ (here : Nbns (Ahead ℕ)). here.watcher) s.first_is };
+}

@@ -1,2 +1,3 @@
 pub mod Nbns
 pub mod Watched
+pub mod Said

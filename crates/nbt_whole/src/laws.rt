@@ -2,6 +2,7 @@
 
 ghost use Rattle.nbt_whole.specs.Nbns.{NbnsAreLived, FailedNbnsAreLived, KeptAreLived, FailedKeptAreLived};
 ghost use Rattle.nbt_whole.specs.Watched.{NbnsAreWatched, FailedNbnsAreWatched, KeptAreWatched, FailedKeptAreWatched};
+ghost use Rattle.nbt_whole.specs.Said.{WhatIsWatchedIsSaid, RunsBeginNew};
 
 /// What the contract of [`nbt_nbns::run_nbns`] says of a server without a state is a life of it, from its first call to its last: until its time is over
 /// (`bare`), or until its port fails for good (`bare_failed`). So is what `RunsKept`, which is of the contract of [`nbt_nbns::run_server`], says of a
@@ -27,4 +28,12 @@ pub fn a_server_is_watched_in_turn()
     ensures bare_failed { FailedNbnsAreWatched }
     ensures kept { KeptAreWatched }
     ensures kept_failed { FailedKeptAreWatched }
+{}
+
+/// A run begins with a journal that was shown nothing (`begins`). After any of its events, and so at any time of it, the counts are those of the entries that were
+/// shown, each counted once, and the text that a place was given last is that of one showing (`said`): the list of the leases that lived at that moment, or the hosts
+/// of that moment beside the names that were fixed then, or the statistics of that moment.
+pub fn what_is_watched_is_said()
+    ensures begins { RunsBeginNew }
+    ensures said { WhatIsWatchedIsSaid }
 {}
