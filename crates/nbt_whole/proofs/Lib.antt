@@ -12,3 +12,5 @@ mod Watching
 mod Overall
 -- what is said after any events
 mod Saying
+-- what is printed, if no line is refused
+mod Printing

@@ -1,3 +1,4 @@
 pub mod Nbns
 pub mod Watched
 pub mod Said
+pub mod Printed

@@ -2,6 +2,7 @@
 
 ghost use Rattle.nbt_whole.specs.Nbns.{NbnsAreLived, FailedNbnsAreLived, KeptAreLived, FailedKeptAreLived};
 ghost use Rattle.nbt_whole.specs.Watched.{NbnsAreWatched, FailedNbnsAreWatched, KeptAreWatched, FailedKeptAreWatched};
+ghost use Rattle.nbt_whole.specs.Printed.{WhatIsNotRefusedIsPrinted};
 ghost use Rattle.nbt_whole.specs.Said.{WhatIsWatchedIsSaid, RunsBeginNew};
 
 /// What the contract of [`nbt_nbns::run_nbns`] says of a server without a state is a life of it, from its first call to its last: until its time is over
@@ -36,4 +37,11 @@ pub fn a_server_is_watched_in_turn()
 pub fn what_is_watched_is_said()
     ensures begins { RunsBeginNew }
     ensures said { WhatIsWatchedIsSaid }
+{}
+
+/// As long as no line of a log was refused, since memory was out or the log couldn't be written, what was written of the log and what waits for its reader, taken together,
+/// grew by its lines alone, one for each entry that was shown, in their order: each is printed, or it is dropped, and the next one that is printed has a note of how many were. The
+/// statistics count those that were dropped.
+pub fn what_is_not_refused_is_printed()
+    ensures { WhatIsNotRefusedIsPrinted }
 {}
