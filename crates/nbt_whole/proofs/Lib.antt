@@ -14,3 +14,5 @@ mod Overall
 mod Saying
 -- what is printed, if no line is refused
 mod Printing
+-- how old a list is
+mod Aging

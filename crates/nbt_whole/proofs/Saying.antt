@@ -58,22 +58,22 @@ listed_part : (b : Bool) (draft : DraftValue) → ((if b then one_part_listed dr
 listed_part true draft = (refl, refl, refl)
 listed_part false draft = (refl, refl, refl)
 
-abbrev IsOf : DraftValue → ListingValue → (at : ℕ) → Rows → Type 0
+abbrev pub IsOf : DraftValue → ListingValue → (at : ℕ) → Rows → Type 0
 IsOf draft listing at rows = (draft.listing ≡ listing) × (draft.at ≡ at) × (draft.rows ≡ rows)
 
-part_more : (draft : DraftValue) (listing : ListingValue) (at : ℕ) (rows : Rows) → IsOf draft listing at rows → IsOf (one_part_more draft) listing at rows
+pub part_more : (draft : DraftValue) (listing : ListingValue) (at : ℕ) (rows : Rows) → IsOf draft listing at rows → IsOf (one_part_more draft) listing at rows
 part_more draft listing at rows is =
     let same = listed_part ((one_part_noted draft).noted == length draft.rows) (one_part_noted draft) in
     (same.0 ∙ is.0, same.1 ∙ is.1, same.2 ∙ is.2)
 
-text_of_draft : (draft : DraftValue) (listing : ListingValue) (at : ℕ) (rows : Rows) (text : List ℕ) → IsOf draft listing at rows → IsDraftText draft text → IsListing listing at rows text
+pub text_of_draft : (draft : DraftValue) (listing : ListingValue) (at : ℕ) (rows : Rows) (text : List ℕ) → IsOf draft listing at rows → IsDraftText draft text → IsListing listing at rows text
 text_of_draft draft listing at rows text is says =
     subst (λ (l : ListingValue). IsListing l at rows text) is.0 (subst (λ (m : ℕ). IsListing draft.listing m rows text) is.1 (subst (λ (r : Rows). IsListing draft.listing draft.at r text) is.2 says))
 
 -- ---- what was once
 
 module _ (first : Watched) where
-  once_on : (Holds : Watched → Shown → Watched → Type 0) (events : List Event) (mid new : Watched) (event : Event) → Happens mid event new → WasOnce Holds first events mid → WasOnce Holds first (events ++ event ∷ []) new
+  pub once_on : (Holds : Watched → Shown → Watched → Type 0) (events : List Event) (mid new : Watched) (event : Event) → Happens mid event new → WasOnce Holds first events mid → WasOnce Holds first (events ++ event ∷ []) new
   once_on Holds events mid new event happens once = record {
     before = once.before;
     shown = once.shown;
@@ -87,7 +87,7 @@ module _ (first : Watched) where
     holds = once.holds;
   }
 
-  once_weaker : (Holds More : Watched → Shown → Watched → Type 0) (events : List Event) (last : Watched) → ((old new : Watched) (shown : Shown) → Holds old shown new → More old shown new) → WasOnce Holds first events last → WasOnce More first events last
+  pub once_weaker : (Holds More : Watched → Shown → Watched → Type 0) (events : List Event) (last : Watched) → ((old new : Watched) (shown : Shown) → Holds old shown new → More old shown new) → WasOnce Holds first events last → WasOnce More first events last
   once_weaker Holds More events last weaker once = record {
     before = once.before;
     shown = once.shown;
@@ -101,7 +101,7 @@ module _ (first : Watched) where
     holds = weaker once.old once.new once.shown once.holds;
   }
 
-  once_now : (Holds : Watched → Shown → Watched → Type 0) (events : List Event) (old new : Watched) (shown : Shown) → Chain Happens first events old → Happens old (was_shown shown) new → Holds old shown new → WasOnce Holds first (events ++ was_shown shown ∷ []) new
+  pub once_now : (Holds : Watched → Shown → Watched → Type 0) (events : List Event) (old new : Watched) (shown : Shown) → Chain Happens first events old → Happens old (was_shown shown) new → Holds old shown new → WasOnce Holds first (events ++ was_shown shown ∷ []) new
   once_now Holds events old new shown came saw holds = record { before = events; shown = shown; after = []; old = old; new = new; events_are = refl; came = came; saw = saw; went_on = refl; holds = holds }
 
   -- what holds at first, and after each event where it held before, holds in the end

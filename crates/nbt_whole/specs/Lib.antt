@@ -2,3 +2,4 @@ pub mod Nbns
 pub mod Watched
 pub mod Said
 pub mod Printed
+pub mod Aging

@@ -1,5 +1,6 @@
 //! A whole name server lives in a network, and is watched: each law is the contract of a function that does nothing.
 
+ghost use Rattle.nbt_whole.specs.Aging.{WhatIsListedIsRecent};
 ghost use Rattle.nbt_whole.specs.Nbns.{NbnsAreLived, FailedNbnsAreLived, KeptAreLived, FailedKeptAreLived};
 ghost use Rattle.nbt_whole.specs.Watched.{NbnsAreWatched, FailedNbnsAreWatched, KeptAreWatched, FailedKeptAreWatched};
 ghost use Rattle.nbt_whole.specs.Printed.{WhatIsNotRefusedIsPrinted};
@@ -44,4 +45,11 @@ pub fn what_is_watched_is_said()
 /// statistics count those that were dropped.
 pub fn what_is_not_refused_is_printed()
     ensures { WhatIsNotRefusedIsPrinted }
+{}
+
+/// As long as no look at the list of leases fails, a showing is at most `gap` milliseconds after the one before, and the server has at most `most` rows, the text that the
+/// place of the list was given last is that of a showing that is no older at the last one than a second, a gap, and twice 5 ms and a gap for each 256 rows (`oldest`). It has one once as
+/// long has passed from the beginning.
+pub fn what_is_listed_is_recent()
+    ensures { WhatIsListedIsRecent }
 {}
