@@ -1,5 +1,5 @@
 -- A server that stays up is watched, whichever way it ends.
-use Rattle.std.proofs.Common.{◌≡◌, ◌<◌, ℕ, Bool, nat_lt, true, false, List, [], ◌∷◌, ◌++◌, length, map, filter, Option, Some, None, refl, sym, ap, subst, ◌∙◌, if◌then◌else◌, arith}
+use Rattle.std.proofs.Common.{◌≡◌, ◌<◌, ℕ, Bool, nat_lt, true, false, List, [], ◌∷◌, ◌++◌, length, map, filter, Option, Some, None, refl, sym, ap, subst, ◌∙◌, if◌then◌else◌, inl, inr, arith}
 use Rattle.std.proofs.lemmas.Bool.{cases_Bool}
 use Rattle.nbt_log.specs.declared.entry.Entry.{Entry}
 use Rattle.nbt_port.specs.Clocks.{MachineTells}
@@ -69,7 +69,7 @@ module _ {C : Type 0} (does : Fronted PortsValue → PortCall → Fronted PortsV
       (seen_on old mid new early.0 late.0, late.1)
 
   nothing_seen : (old new : Nbns C) → watched_of new ≡ watched_of old → Seen old new
-  nothing_seen old new same = record { events = []; happened = same; each_told = refl; in_turn = ([], refl) }
+  nothing_seen old new same = record { events = []; happened = same; each_told = refl; in_turn = ([], refl, inl tt) }
 
   bare_shows : (old new : Nbns C) (shown : Shown) → Shows does failures keeps tells MachineTells (Journals MachineTells Stays) old shown new → BareOver old new
   bare_shows old new shown s none =
@@ -97,7 +97,7 @@ module _ {C : Type 0} (does : Fronted PortsValue → PortCall → Fronted PortsV
           events = acted None ∷ [];
           happened = (record (watched_of old) { server = new.served.server }, acts None new.served.server (broken_server b.0.0.turns b.0.0.failure old.served.server b.0.0.mid new.served.server b.0.0.fewer b.0.0.server b.0.0.fails), ap watched_of broke.1);
           each_told = refl;
-          in_turn = ([], refl);
+          in_turn = ([], refl, inl tt);
         },
         b.1,
       )
@@ -109,7 +109,7 @@ module _ {C : Type 0} (does : Fronted PortsValue → PortCall → Fronted PortsV
       events = were_fixed _ ∷ [];
       happened = (record (watched_of old) { journal = watcher }, notes _ watcher noted, refl);
       each_told = refl;
-      in_turn = ([], refl);
+      in_turn = ([], refl, inl tt);
     },
     none,
   )
@@ -168,7 +168,7 @@ module _ {C : Type 0} (does : Fronted PortsValue → PortCall → Fronted PortsV
       }
 
   nothing_went : (old new : Nbns C) (s : State Bool) → watched_of new ≡ watched_of old → new.served.state ≡ Some s → Went old new s
-  nothing_went old new s same there = record { state = s; there = there; events = []; happened = same; in_order = ([], refl) }
+  nothing_went old new s same there = record { state = s; there = there; events = []; happened = same; in_order = ([], refl, inl tt) }
 
   shows_so : (old new : Nbns C) (shown : Shown) → Shows does failures keeps tells MachineTells (Journals MachineTells Stays) old shown new → Over old new
   shows_so old new shown w s is =
@@ -210,7 +210,7 @@ module _ {C : Type 0} (does : Fronted PortsValue → PortCall → Fronted PortsV
         there = b.there;
         events = acted None ∷ [];
         happened = (record (watched_of old) { server = new.served.server }, acts None new.served.server (broken_keeping old.served.server new.served.server b.holds.0.took b.holds.0.takes), ap watched_of broke.1);
-        in_order = ([], ap (λ (t : State Bool). entries_of t.teller) (sym b.holds.1));
+        in_order = ([], ap (λ (t : State Bool). entries_of t.teller) (sym b.holds.1), inl tt);
       }
 
   renewed_so : (old new : Nbns C) → RenewsFront RenewsPort NotesNames tells old new → Over old new
@@ -220,7 +220,7 @@ module _ {C : Type 0} (does : Fronted PortsValue → PortCall → Fronted PortsV
     there = is;
     events = were_fixed _ ∷ [];
     happened = (record (watched_of old) { journal = watcher }, notes _ watcher noted, refl);
-    in_order = ([], refl);
+    in_order = ([], refl, inl tt);
   }
   renewed_so old _ (can_not at clock told) s is = nothing_went old (record old { served = record old.served { clock = clock } }) s refl is
 

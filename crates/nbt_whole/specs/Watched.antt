@@ -1,12 +1,15 @@
 -- What watches a name server over a whole run: which turns it is shown, and what it made of them (our profile).
-use Rattle.std.specs.Prelude.{◌≡◌, ⊤, ℕ, List, [], ◌∷◌, ◌++◌, Option, Some, None}
+use Rattle.std.specs.Prelude.{◌≡◌, ◌<◌, ◌⊎◌, ℕ, true, List, [], ◌∷◌, ◌++◌, length, Option, Some, None}
+use Rattle.std.specs.List.{AllByRecursion}
 use Rattle.nbt_port.specs.Clocks.{MachineTells}
 use Rattle.nbt_port.specs.PortCalls.{Chain}
 use Rattle.nbt_port.specs.declared.ahead.Ahead.{Ahead}
 use Rattle.nbt_port.specs.declared.fault.Fault.{Fault}
+use Rattle.nbt_server.specs.Outcomes.{has_reply}
 use Rattle.nbt_server.specs.Serving.{ServerValue}
 use Rattle.nbt_log.specs.declared.entry.Entry.{Entry}
 use Rattle.nbt_serve.specs.Serving.{Turn, Turns, IsLogged}
+use Rattle.nbt_serve.specs.Waiting.{batch}
 use Rattle.nbt_nbns.specs.Journaling.{Journals}
 use Rattle.nbt_nbns.specs.Places.{FileValue, Stays}
 use Rattle.nbt_nbns.specs.Renewing.{NotesNames}
@@ -66,14 +69,22 @@ told (acted entry ∷ events) = told events
 told (was_shown shown ∷ events) = with_entry shown.entry (told events)
 told (were_fixed capitals ∷ events) = told events
 
--- An entry that is shown is one of those that weren't yet; what goes on has those behind it. Those before it are left out for good.
+-- the turn has a reply
+abbrev pub HasReply : Entry → Type 0
+HasReply entry = has_reply entry.outcome ≡ true
+
+-- Some of those that weren't shown yet may be left out for good: each has a reply, which was dropped; or more wait than may.
+abbrev pub MayBeLeftOut : (untold left_out : List Entry) → Type 0
+MayBeLeftOut untold left_out = AllByRecursion HasReply left_out ⊎ (batch < length untold)
+
+-- An entry that is shown is one of those that weren't yet; what goes on has those behind it. Those before it are left out.
 abbrev pub IsNext : Option Entry → (untold : List Entry) → (goes_on : List Entry → Type 0) → Type 0
 IsNext None untold goes_on = goes_on untold
-IsNext (Some entry) untold goes_on = (left_out : List Entry) × (rest : List Entry) × (untold ≡ left_out ++ entry ∷ rest) × goes_on rest
+IsNext (Some entry) untold goes_on = (left_out : List Entry) × (rest : List Entry) × (untold ≡ left_out ++ entry ∷ rest) × MayBeLeftOut untold left_out × goes_on rest
 
 -- Each entry that is shown is that of a turn before it, each once and in the order of the turns; `untold` weren't shown before, and `still` in the end.
 abbrev pub IsToldInTurn : (untold : List Entry) → List Event → (still : List Entry) → Type 0
-IsToldInTurn untold [] still = (left_out : List Entry) × (untold ≡ left_out ++ still)
+IsToldInTurn untold [] still = (left_out : List Entry) × (untold ≡ left_out ++ still) × MayBeLeftOut untold left_out
 IsToldInTurn untold (acted None ∷ events) still = IsToldInTurn untold events still
 IsToldInTurn untold (acted (Some entry) ∷ events) still = IsToldInTurn (untold ++ entry ∷ []) events still
 IsToldInTurn untold (was_shown shown ∷ events) still = IsNext shown.entry untold (λ rest. IsToldInTurn rest events still)

@@ -23,8 +23,8 @@ pub fn a_whole_server_is_lived()
 
 /// The journal of a name server, which is its log, its lists and its statistics, is shown the turns of the server. Without a state it is shown the entry of each
 /// turn that goes well, in their order and none else, until its time is over (`bare`) or its port fails for good (`bare_failed`). With a state each entry that
-/// it is shown is that of a turn before it, each once and in their order (`kept`, `kept_failed`); the others are left out, or not shown yet in the end. It is
-/// shown the server as it is by then, and each showing is what the journal's contract says.
+/// it is shown is that of a turn before it, each once and in their order (`kept`, `kept_failed`); the others aren't shown yet in the end, or are left out, each since it has a reply, or since more
+/// than 64 wait. It is shown the server as it is by then, and each showing is what the journal's contract says.
 pub fn a_server_is_watched_in_turn()
     ensures bare { NbnsAreWatched }
     ensures bare_failed { FailedNbnsAreWatched }
