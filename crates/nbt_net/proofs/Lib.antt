@@ -59,3 +59,8 @@ mod Surely
 mod Readying
 mod NewWire
 mod Beginning
+-- the header that a crash of a disk leaves, and what a start finds then
+mod Headed
+mod HeadersLeft
+mod RunsWell
+mod Finding

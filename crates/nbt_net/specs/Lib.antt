@@ -10,6 +10,7 @@ pub mod Restarts
 pub mod Devices
 pub mod Hosting
 pub mod Again
+pub mod Headers
 pub mod Fronts
 pub mod Working
 pub mod BareWorking

@@ -27,6 +27,7 @@ ghost use Rattle.nbt_net.specs.Clocks.{counted, place_reads};
 ghost use Rattle.nbt_net.specs.Devices.{Call, Story, no_story, AreActs, IsCutAt};
 ghost use Rattle.nbt_net.specs.Fronts.{AreThrough};
 ghost use Rattle.nbt_net.specs.Getting.{NetworkGets, NewNetworkGets, RequestGets};
+ghost use Rattle.nbt_net.specs.Headers.{CrashLeavesTheHeader, DiskNextStart, StartFindsLeft};
 ghost use Rattle.nbt_net.specs.Hosting.{HostsAreLived, FailedHostsAreLived};
 ghost use Rattle.nbt_net.specs.Hosts.{HostLives};
 ghost use Rattle.nbt_net.specs.Lives.{Network, NetworkIsARun, NoTwoHold};
@@ -40,7 +41,7 @@ ghost use Rattle.nbt_net.specs.BareWorking.{Bare, BareStarts, BareWorkIsLived, I
 ghost use Rattle.nbt_net.specs.Working.{HasWorked, PutsFront, WorkIsLived};
 
 use nbt_port::{Clock, Port};
-use nbt_store::Store;
+use nbt_store::{Disk, Store};
 
 /// What a server does at one reading of its clock is a run of the world, with what its port sends: it starts, resumes, takes a turn or fails in it, or crashes.
 pub fn a_servers_act_is_a_run()
@@ -148,6 +149,28 @@ pub fn a_server_lives_over_any_number_of_crashes()
     nbt_store::laws::a_file_has_one_reading();
     nbt_store::laws::a_new_clock_begins_at_the_last_time();
     nbt_server::laws::a_shifted_server_does_the_same();
+}
+
+/// Whatever a crash leaves of a disk, by the premise on it, after a store was opened over it and called, is a file with the header that goes with
+/// its changes: that of the opening, or of the last new file that took the file's place; or, within the call at which one does, of either of the
+/// two. All calls went well, but maybe the last, at or within which the crash came.
+pub fn a_crash_leaves_the_header_that_was_written<D: Disk>()
+    ensures { CrashLeavesTheHeader D.does }
+{
+    nbt_store::laws::calls_of_a_store_ask_in_turn::<D>();
+    nbt_store::laws::a_crash_of_the_disk_leaves_what_calls_may_leave();
+}
+
+/// So a start that finds what a crash left of a server's disk, and goes on, finds what that server left, with its start, its life and its longest
+/// lease (`found`). It is a premise that each new file was begun with a header that has these. And so a server whose store is over a disk lives
+/// over any number of crashes, each at or within any call of its devices: what holds as it begins holds as it begins again (`next`).
+pub fn a_start_finds_what_the_disk_kept<D: Disk>()
+    ensures found { StartFindsLeft D.does }
+    ensures next { DiskNextStart D.does }
+{
+    a_crash_leaves_the_header_that_was_written::<D>();
+    a_server_lives_over_any_number_of_crashes();
+    nbt_store::laws::a_file_has_one_reading();
 }
 
 /// A network of programs is safe: from a wire on which nothing happened yet, through all that may happen, no two hosts hold one name, unless
