@@ -26,7 +26,7 @@ use Rattle.nbt_store.specs.declared.times.Times.{Times}
 use Rattle.nbt_store.specs.DiskCalls.{DiskCall}
 use Rattle.nbt_serve.specs.Runs.{last_left, live_rows, stored_in}
 use Rattle.nbt_net.specs.Again.{NextStart, StartBeginsARun, held_of, kept_of}
-use Rattle.nbt_net.specs.Headers.{Headed, headed, header_beside, headed_by, headed_after, header_left, AllBeginAsOf, BeginsAsOf, CrashLeavesTheHeader, DiskNextStart, Finds, IsHeaderOf, StartFindsLeft}
+use Rattle.nbt_net.specs.Headers.{Headed, headed, header_beside, headed_by, headed_after, header_left, AllBeginWith, BeginsWith, CrashLeavesTheHeader, DiskNextStart, Finds, IsHeaderOf, StartFindsLeft}
 use Rattle.nbt_net.specs.Starts.{FindsLeft}
 use Rattle.nbt_net.proofs.RunsWell.{run_went_well}
 use Rattle.nbt_net.proofs.Started.{FileHasOneReading}
@@ -45,7 +45,7 @@ header_of_both : (ran : ServerValue) (file : Header) (beside : Option Header) �
 header_of_both ran file None is new = is
 header_of_both ran file (Some header) is new = new
 
-are_by : (ran : ServerValue) (call : StoreCall) (now : Headed) → BeginsAsOf ran call → AreOf ran now → AreOf ran (headed_by call now)
+are_by : (ran : ServerValue) (call : StoreCall) (now : Headed) → BeginsWith (IsHeaderOf ran) call → AreOf ran now → AreOf ran (headed_by call now)
 are_by ran (appended c) now own are = are
 are_by ran (append_failed c) now own are = are
 are_by ran synced now own are = are
@@ -55,18 +55,18 @@ are_by ran renewal_went_on now own are = are
 are_by ran renewed now own are = record { file = header_of_both ran now.file now.beside are.file are.beside; beside = tt }
 are_by ran renewal_failed now own are = are
 
-are_after : (ran : ServerValue) (calls : List StoreCall) (now : Headed) → AllBeginAsOf ran calls → AreOf ran now → AreOf ran (headed_after calls now)
+are_after : (ran : ServerValue) (calls : List StoreCall) (now : Headed) → AllBeginWith (IsHeaderOf ran) calls → AreOf ran now → AreOf ran (headed_after calls now)
 are_after ran [] now own are = are
 are_after ran (call ∷ calls) now own are = are_after ran calls (headed_by call now) own.1 (are_by ran call now own.0 are)
 
-first_of_all : (ran : ServerValue) (calls others : List StoreCall) → AllBeginAsOf ran (calls ++ others) → AllBeginAsOf ran calls
+first_of_all : (ran : ServerValue) (calls others : List StoreCall) → AllBeginWith (IsHeaderOf ran) (calls ++ others) → AllBeginWith (IsHeaderOf ran) calls
 first_of_all ran [] others own = tt
 first_of_all ran (call ∷ calls) others own = (own.0, first_of_all ran calls others own.1)
 
-header_of_left : (ran : ServerValue) (first : Header) (rows : Rows) (calls : List StoreCall) (left : List Change) (may : MayLeaveAfter (kept_rows first.last rows) calls left) → IsHeaderOf ran first → AllBeginAsOf ran calls → IsHeaderOf ran (header_left first may)
+header_of_left : (ran : ServerValue) (first : Header) (rows : Rows) (calls : List StoreCall) (left : List Change) (may : MayLeaveAfter (kept_rows first.last rows) calls left) → IsHeaderOf ran first → AllBeginWith (IsHeaderOf ran) calls → IsHeaderOf ran (header_left first may)
 header_of_left ran first rows calls left (first_changes may) is own = (are_after ran calls (headed first) own (record { file = is; beside = tt })).file
 header_of_left ran first rows calls left (as_drafted before draft e there left_is) is own =
-    let are = are_after ran before (headed first) (first_of_all ran before (renewal_failed ∷ []) (subst (AllBeginAsOf ran) e own)) (record { file = is; beside = tt }) in
+    let are = are_after ran before (headed first) (first_of_all ran before (renewal_failed ∷ []) (subst (AllBeginWith (IsHeaderOf ran)) e own)) (record { file = is; beside = tt }) in
     header_of_both ran first (headed_after before (headed first)).beside is are.beside
 
 -- ---- a start that goes on has the limits of the file

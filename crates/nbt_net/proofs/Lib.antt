@@ -62,5 +62,6 @@ mod Beginning
 -- the header that a crash of a disk leaves, and what a start finds then
 mod Headed
 mod HeadersLeft
+mod StoreCalls
 mod RunsWell
 mod Finding

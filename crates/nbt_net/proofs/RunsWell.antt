@@ -3,18 +3,20 @@ use Rattle.std.proofs.Common.{◌≡◌, ◌∙◌, ℕ, false, Bool, Option, So
 use Rattle.std.specs.Prelude.{◌⊎◌, ⊤}
 use Rattle.std.specs.List.{flat_map}
 use Rattle.nbt_port.specs.PortCalls.{Chain, PortCall, send_failed}
-use Rattle.nbt_store.specs.Calls.{StoreCall, append_failed, has_failed, WentWell}
+use Rattle.nbt_store.specs.Calls.{StoreCall, appended, append_failed, synced, has_failed, WentWell}
 use Rattle.nbt_store.specs.declared.change.Change.{Change}
 use Rattle.nbt_serve.specs.Devices.{DeviceCall, on_port, on_store}
 use Rattle.nbt_serve.specs.Runs.{Held, Seen, Steps, takes_turn, port_fails, looks, begins_renewal, goes_on_renewing, renews, Ends, store_fails, look_fails, renewal_fails, Runs, goes_on, ends, calls_in, stored_in}
 use Rattle.nbt_serve.specs.Serving.{moments_in}
-use Rattle.nbt_serve.specs.Turning.{Took, Passes, still_waits, all_leave, LeavingFails, sync_fails, send_fails, Fails, receive_fails, reaching_fails, append_fails, ahead_fails, leaving_fails, appends_of, first_calls, reached, reply_in, sent_ahead, stores, taking, with_reply}
+use Rattle.nbt_serve.specs.Turning.{LeavingFails, sync_fails, send_fails, Fails, receive_fails, reaching_fails, append_fails, ahead_fails, leaving_fails, first_calls, reached, with_reply, Took}
 use Rattle.nbt_serve.specs.Waiting.{WaitingValue, lay_down, LineFails, not_appended, not_synced, syncs_of, sends_of, timely, leaving}
 use Rattle.nbt_serve.specs.declared.fault.KeepFault.{KeepFault}
 use Rattle.nbt_serve.specs.declared.fault.KeepFault.TheVariants as fault
 use Rattle.nbt_serve.specs.declared.waiting.Unsynced.{Unsynced}
 use Rattle.nbt_net.specs.Headers.{AllButLast, all_of_them, but_the_last}
+use Rattle.nbt_net.proofs.Looks.{stores_all}
 use Rattle.nbt_net.proofs.Ordering.{stored-append}
+use Rattle.nbt_net.proofs.StoreCalls.{devices_both, of_first, of_lines, of_port_fault, of_turn}
 
 -- ---- calls that went well, and one more at most
 
@@ -25,10 +27,6 @@ MayEndBadly (call ∷ calls) = ((has_failed call ≡ false) × MayEndBadly calls
 well_may : (calls : List StoreCall) → WentWell calls → MayEndBadly calls
 well_may [] well = tt
 well_may (call ∷ calls) well = inl (well.0, well_may calls well.1)
-
-well_both : (a b : List StoreCall) → WentWell a → WentWell b → WentWell (a ++ b)
-well_both [] b well others = others
-well_both (call ∷ a) b well others = (well.0, well_both a b well.1 others)
 
 well_then_may : (a b : List StoreCall) → WentWell a → MayEndBadly b → MayEndBadly (a ++ b)
 well_then_may [] b well others = others
@@ -54,64 +52,22 @@ all_but_last (call ∷ calls) (inr e) = but_the_last [] call (ap (λ (cs : List 
 
 -- ---- of the devices' calls
 
+abbrev DidWell : StoreCall → Type 0
+DidWell call = has_failed call ≡ false
+
 abbrev StoreWell : List DeviceCall → Type 0
 StoreWell calls = WentWell (stored_in calls)
 
-devices_well : (a b : List DeviceCall) → StoreWell a → StoreWell b → StoreWell (a ++ b)
-devices_well a b well others = subst WentWell (sym (stored-append a b)) (well_both (stored_in a) (stored_in b) well others)
+appends_well : (change : Change) → DidWell (appended change)
+appends_well change = refl
+
+syncs_well : DidWell synced
+syncs_well = refl
 
 devices_may : (a b : List DeviceCall) → StoreWell a → MayEndBadly (stored_in b) → MayEndBadly (stored_in (a ++ b))
 devices_may a b well others = subst MayEndBadly (sym (stored-append a b)) (well_then_may (stored_in a) (stored_in b) well others)
 
-stores_all : (calls : List StoreCall) → stored_in (map on_store calls) ≡ calls
-stores_all [] = refl
-stores_all (call ∷ calls) = ap (λ (cs : List StoreCall). call ∷ cs) (stores_all calls)
-
-ports_well : (calls : List PortCall) → StoreWell (map on_port calls)
-ports_well [] = tt
-ports_well (call ∷ calls) = ports_well calls
-
-stores_well : (calls : List StoreCall) → WentWell calls → StoreWell (map on_store calls)
-stores_well calls well = subst WentWell (sym (stores_all calls)) well
-
--- ---- a turn
-
-lays_well : (changes : List Change) → WentWell (flat_map lay_down changes)
-lays_well [] = tt
-lays_well (change ∷ changes) = (refl, (refl, lays_well changes))
-
-appends_well : (change : Option Change) → WentWell (appends_of change)
-appends_well None = tt
-appends_well (Some change) = (refl, tt)
-
-syncs_well : (unsynced : Option Unsynced) → WentWell (syncs_of unsynced)
-syncs_well None = tt
-syncs_well (Some unsynced) = (refl, tt)
-
-taking_well : (took : Took) (waiting : WaitingValue) → StoreWell (taking took waiting)
-taking_well took waiting = stores_well (stores took waiting) (well_both (flat_map lay_down (reached waiting.durable (moments_in took.turn))) (appends_of took.change) (lays_well (reached waiting.durable (moments_in took.turn))) (appends_well took.change))
-
-first_well : (ahead : Bool) (took : Took) (waiting : WaitingValue) → StoreWell (first_calls ahead took waiting)
-first_well ahead took waiting = devices_well (taking took waiting) (map on_port (sends_of (sent_ahead ahead (reply_in took.turn)))) (taking_well took waiting) (ports_well (sends_of (sent_ahead ahead (reply_in took.turn))))
-
-leaving_well : (unsynced : Option Unsynced) (calls : List PortCall) → StoreWell (map on_store (syncs_of unsynced) ++ map on_port calls)
-leaving_well unsynced calls = devices_well (map on_store (syncs_of unsynced)) (map on_port calls) (stores_well (syncs_of unsynced) (syncs_well unsynced)) (ports_well calls)
-
-passes_well : (life : ℕ) (old : WaitingValue) (took : Took) (ahead : Bool) (calls : List DeviceCall) (readings : List ℕ) (new : WaitingValue) → Passes life old took ahead calls readings new → StoreWell calls
-passes_well life old took ahead _ _ _ (still_waits is stays) = first_well ahead took old
-passes_well life old took ahead _ _ _ (all_leave is go now) =
-    devices_well (first_calls ahead took old) (leaving life now (with_reply ahead took old)) (first_well ahead took old) (leaving_well (with_reply ahead took old).unsynced (sends_of (timely life now (with_reply ahead took old).replies)))
-
-leaving_port : (life : ℕ) (old : WaitingValue) (why : KeepFault) (calls : List DeviceCall) (readings : List ℕ) (new : WaitingValue) → LeavingFails life old why calls readings new → why ≡ fault.Port → StoreWell calls
-leaving_port life old _ _ _ _ (sync_fails some) is = absurd cc
-leaving_port life old _ _ _ _ (send_fails now before lost rest e) is = leaving_well old.unsynced (sends_of before ++ send_failed lost.datagram.route lost.datagram.octets ∷ [])
-
-port_well : (life : ℕ) (old : WaitingValue) (took : Option Took) (why : KeepFault) (calls : List DeviceCall) (readings : List ℕ) (new : WaitingValue) → Fails life old took why calls readings new → why ≡ fault.Port → StoreWell calls
-port_well life old _ _ _ _ _ receive_fails is = tt
-port_well life old _ _ _ _ _ (reaching_fails now from octets calls late fails) is = absurd cc
-port_well life old _ _ _ _ _ (append_fails turn change) is = absurd cc
-port_well life old _ _ _ _ _ (ahead_fails took lost ahead e) is = devices_well (taking took old) (on_port (send_failed lost.datagram.route lost.datagram.octets) ∷ []) (taking_well took old) tt
-port_well life old _ _ _ _ _ (leaving_fails took ahead why calls readings new is_ahead go fails) is = devices_well (first_calls ahead took old) calls (first_well ahead took old) (leaving_port life (with_reply ahead took old) why calls readings new fails is)
+-- ---- a turn in which the store fails
 
 line_may : (change : Change) (calls : List StoreCall) → LineFails change calls → MayEndBadly (stored_in (map on_store calls))
 line_may change _ not_appended = inr refl
@@ -126,15 +82,15 @@ store_may life old _ _ _ _ _ receive_fails is = absurd cc
 store_may life old _ _ _ _ _ (reaching_fails now from octets calls late fails) is = line_may _ calls fails
 store_may life old _ _ _ _ _ (append_fails turn change) is =
     let lines : List StoreCall = flat_map lay_down (reached old.durable (moments_in turn)) in
-    subst MayEndBadly (sym (stores_all (lines ++ append_failed change ∷ []))) (well_then_may lines (append_failed change ∷ []) (lays_well (reached old.durable (moments_in turn))) (inr refl))
+    subst MayEndBadly (sym (stores_all (lines ++ append_failed change ∷ []))) (well_then_may lines (append_failed change ∷ []) (of_lines DidWell appends_well syncs_well (reached old.durable (moments_in turn))) (inr refl))
 store_may life old _ _ _ _ _ (ahead_fails took lost ahead e) is = absurd cc
-store_may life old _ _ _ _ _ (leaving_fails took ahead why calls readings new is_ahead go fails) is = devices_may (first_calls ahead took old) calls (first_well ahead took old) (leaving_store life (with_reply ahead took old) why calls readings new fails is)
+store_may life old _ _ _ _ _ (leaving_fails took ahead why calls readings new is_ahead go fails) is = devices_may (first_calls ahead took old) calls (of_first DidWell appends_well syncs_well ahead took old) (leaving_store life (with_reply ahead took old) why calls readings new fails is)
 
 -- ---- a run
 
 step_well : (old : Held) (seen : Seen) (new : Held) → Steps old seen new → StoreWell seen.calls
-step_well old _ _ (takes_turn life took ahead calls readings server waiting takes passes) = passes_well life old.waiting took ahead calls readings waiting passes
-step_well old _ _ (port_fails life took calls readings server waiting takes fails) = port_well life old.waiting took fault.Port calls readings waiting fails refl
+step_well old _ _ (takes_turn life took ahead calls readings server waiting takes passes) = of_turn DidWell appends_well syncs_well life old.waiting took ahead calls readings waiting passes
+step_well old _ _ (port_fails life took calls readings server waiting takes fails) = of_port_fault DidWell appends_well syncs_well life old.waiting took fault.Port calls readings waiting fails refl
 step_well old _ _ (looks day at clear late) = (refl, (refl, tt))
 step_well old _ _ (begins_renewal header clear late) = (refl, tt)
 step_well old _ _ (goes_on_renewing clear) = (refl, tt)
@@ -147,7 +103,7 @@ end_may old _ _ (renewal_fails clear) = inr refl
 
 steps_well : (seen : List Seen) (old new : Held) → Chain Steps old seen new → StoreWell (calls_in seen)
 steps_well [] old new chain = tt
-steps_well (s ∷ seen) old new chain = devices_well s.calls (calls_in seen) (step_well old s chain.0 chain.1) (steps_well seen chain.0 new chain.2)
+steps_well (s ∷ seen) old new chain = devices_both DidWell appends_well syncs_well s.calls (calls_in seen) (step_well old s chain.0 chain.1) (steps_well seen chain.0 new chain.2)
 
 calls_last : (seen : List Seen) (last : Seen) → calls_in (seen ++ last ∷ []) ≡ calls_in seen ++ last.calls
 calls_last [] last = append-nil last.calls

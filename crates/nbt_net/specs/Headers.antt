@@ -99,12 +99,12 @@ pub record IsHeaderOf (server : ServerValue) (header : Header) : Type 0 where
   pub longest_is : header.longest ≡ server.table.config.longest
 
 -- each new file is begun with such a header
-abbrev pub BeginsAsOf : ServerValue → StoreCall → Type 0
-BeginsAsOf server (renewal_began header changes) = IsHeaderOf server header
-BeginsAsOf server call = ⊤
+abbrev pub BeginsWith : (Header → Type 0) → StoreCall → Type 0
+BeginsWith own (renewal_began header changes) = own header
+BeginsWith own call = ⊤
 
-abbrev pub AllBeginAsOf : ServerValue → List StoreCall → Type 0
-AllBeginAsOf server calls = AllByRecursion (BeginsAsOf server) calls
+abbrev pub AllBeginWith : (Header → Type 0) → List StoreCall → Type 0
+AllBeginWith own calls = AllByRecursion (BeginsWith own) calls
 
 -- a start finds these octets
 abbrev pub Finds : Found → (octets : List ℕ) → Type 0
@@ -114,7 +114,7 @@ Finds f octets = (there : Bor (List ℕ)) × (f.kept ≡ Some there) × (there.n
 -- finds what a crash left of the disk, and goes on, finds what the server left: with its start, its life and its longest lease.
 abbrev pub StartFindsLeft : {D : Type 0} → (D → DiskCall → D → Type 0) → Type 0
 StartFindsLeft {D} does = (ran : ServerValue) (header : Header) (rows : Rows) (disk : D) (opened store : DiskStore D) (calls : List StoreCall) → IsOpened does header rows disk opened → Chain (StoreDoes does) opened calls store → AllButLast calls
-    → IsHeaderOf ran header → AllBeginAsOf ran calls
+    → IsHeaderOf ran header → AllBeginWith (IsHeaderOf ran) calls
     → (asked : List DiskCall) × Chain does disk asked (disk_of store) × ((folder : Folder) (octets : List ℕ) → CrashLeaves folder asked octets
     → (left : List Change) × (may : MayLeaveAfter (kept_rows header.last rows) calls left)
     × ((f : Found) (b : Begun) → Finds f octets → BeginsAs f b → b.reason ≡ None → FindsLeft ran (last_left header.last may) left f))
@@ -126,7 +126,7 @@ StartFindsLeft {D} does = (ran : ServerValue) (header : Header) (rows : Rows) (d
 abbrev pub DiskNextStart : {D : Type 0} → (D → DiskCall → D → Type 0) → Type 0
 DiskNextStart {D} does = (config : ConfigValue) (acts : List Act) (began : Found) (b : Begun) (clients : Option ℕ) (new : Held) (seen : List Seen) → BeginsAs began b → IsUnderWay config acts (kept_of b) b.header.last (held_of clients b) → Runs (held_of clients b) seen new → IsConfig config
     → (before behind : List DeviceCall) → calls_in seen ≡ before ++ behind
-    → (disk : D) (opened store : DiskStore D) → IsOpened does b.header (live_rows b.server) disk opened → Chain (StoreDoes does) opened (stored_in before) store → AllBeginAsOf (held_of clients b).server (stored_in before)
+    → (disk : D) (opened store : DiskStore D) → IsOpened does b.header (live_rows b.server) disk opened → Chain (StoreDoes does) opened (stored_in before) store → AllBeginWith (IsHeaderOf (held_of clients b).server) (stored_in before)
     → (asked : List DiskCall) × Chain does disk asked (disk_of store) × ((folder : Folder) (octets : List ℕ) → CrashLeaves folder asked octets
     → (left : List Change) × (may : MayLeaveAfter (kept_of b) (stored_in before) left) × (cut : IsCutShort config (held_of clients b).server (turns_in seen) (gone_in before) (last_left b.header.last may) left)
     × ((at : ℕ) (f : Found) (next : Begun) (rows : Option ℕ) → Finds f octets → BeginsAs f next

@@ -8,12 +8,13 @@ use Rattle.nbt_front.specs.Deciding.{FrontValue, renewed}
 use Rattle.nbt_front.specs.FrontPort.{Fronted}
 use Rattle.nbt_store.specs.Calls.{StoreCall}
 use Rattle.nbt_store.specs.declared.header.Header.{Header}
-use Rattle.nbt_serve.specs.Looking.{Desk, LooksAfter, FailsToLook}
-use Rattle.nbt_serve.specs.Runs.{Held, Runs, Seen, calls_in}
+use Rattle.nbt_serve.specs.Looking.{Desk, LooksAfter, FailsToLook, header_at}
+use Rattle.nbt_serve.specs.Runs.{Held, Runs, Seen, calls_in, stored_in}
 use Rattle.nbt_serve.specs.Turning.{Keeping, KeepsTurn, BreaksKeeping}
 use Rattle.nbt_serve.specs.declared.fault.KeepFault.TheVariants as fault
 use Rattle.nbt_serve.specs.declared.waiting.Sent.{Sent}
 use Rattle.nbt_net.specs.Devices.{devices_in, IsLived}
+use Rattle.nbt_net.specs.Headers.{AllBeginWith}
 use Rattle.nbt_net.specs.Servers.{up, ServerLives}
 
 -- ---- another front, between two calls
@@ -33,13 +34,17 @@ DoesChanged {P} does changes old call new = (mid : P) × HasChanged changes old 
 
 -- ---- its work
 
-module _ {P S C D : Type 0} (does : P → PortCall → P → Type 0) (changes : P → P → Type 0) (keeps : S → StoreCall → S → Type 0) (tells : C → ℕ → C → Type 0) (days : D → ℕ → D → Type 0) where
-  -- It goes through a turn, or its port fails in one; its clock is read; its file is looked after; or its port changes.
+-- a header of its own is one with another pair too, a moment and the time of day at it
+abbrev pub HaveAnyPair : (Header → Type 0) → Type 0
+HaveAnyPair own = (header : Header) (moment time : ℕ) → own header → own (header_at header moment time)
+
+module _ {P S C D : Type 0} (does : P → PortCall → P → Type 0) (changes : P → P → Type 0) (keeps : S → StoreCall → S → Type 0) (tells : C → ℕ → C → Type 0) (days : D → ℕ → D → Type 0) (own : Header → Type 0) where
+  -- It goes through a turn, or its port fails in one; its clock is read; its file is looked after, whose header is one of its own; or its port changes.
   pub data Works (old : Keeping P S C) : Keeping P S C → Type 0 where
     takes_turn : (entry : Option Entry) (sent : Sent) (new : Keeping P S C) → KeepsTurn does keeps tells old entry sent new → Works old new
     port_fails : (new : Keeping P S C) → BreaksKeeping does keeps tells fault.Port old new → Works old new
     reads_clock : (now : ℕ) (clock : C) → tells old.clock now clock → Works old (record old { clock = clock })
-    looks : (at : ℕ) (day : D) (header : Header) (new : Desk S D) → LooksAfter keeps days old.server at (record { store = old.store; day = day; header = header; waiting = old.waiting }) new
+    looks : (at : ℕ) (day : D) (header : Header) (new : Desk S D) → own header → LooksAfter keeps days old.server at (record { store = old.store; day = day; header = header; waiting = old.waiting }) new
         → Works old (record old { store = new.store; waiting = new.waiting })
     port_changes : (port : P) → changes old.port port → Works old (record old { port = port })
 
@@ -63,11 +68,13 @@ abbrev pub held_in : {P S C : Type 0} → Keeping P S C → Held
 held_in here = record { server = here.server; waiting = here.waiting }
 
 -- Such work is a life of the server, call by call. A reply leaves no longer than a datagram's life after its request was read, or never. The calls of
--- its port and of its store are those of a run of a server that keeps its leases. Behind the last call its port may have changed once more.
-pub record WorkIsLived {P S C : Type 0} (does : P → PortCall → P → Type 0) (changes : P → P → Type 0) (keeps : S → StoreCall → S → Type 0) (tells : C → ℕ → C → Type 0) (config : ConfigValue) (old new : Keeping P S C) : Type 0 where
+-- its port and of its store are those of a run of a server that keeps its leases. Each new file is begun with a header of its own. Behind the last
+-- call its port may have changed once more.
+pub record WorkIsLived {P S C : Type 0} (does : P → PortCall → P → Type 0) (changes : P → P → Type 0) (keeps : S → StoreCall → S → Type 0) (tells : C → ℕ → C → Type 0) (own : Header → Type 0) (config : ConfigValue) (old new : Keeping P S C) : Type 0 where
   pub port : P
   pub changed : HasChanged changes port new.port
   pub lived : IsLived (ServerLives config) config.life (DoesChanged does changes) tells keeps (up old.server) (record { port = old.port; clock = old.clock; store = Some old.store }) (up new.server) (record { port = port; clock = new.clock; store = Some new.store })
   pub seen : List Seen
   pub runs : Runs (held_in old) seen (held_in new)
   pub calls_are : devices_in lived.calls ≡ calls_in seen
+  pub headers : AllBeginWith own (stored_in (calls_in seen))

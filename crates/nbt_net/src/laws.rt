@@ -1,7 +1,7 @@
 //! A network of the programs' own acts is a run of a world; and what a server is after a crash and a start, and what its clock reads: each
 //! law is the contract of a function that does nothing.
 
-ghost use Rattle.std.specs.Prelude.{◌≡◌, ℕ, ◌+◌, ◌≤◌, ◌↔◌, List, [], ◌++◌, Option, Some, None, IsTrue};
+ghost use Rattle.std.specs.Prelude.{◌≡◌, ℕ, ◌+◌, ◌≤◌, ◌↔◌, Bool, List, [], ◌++◌, Option, Some, None, IsTrue};
 ghost use Rattle.nbt_name.specs.declared.addr.Addr.{Addr};
 ghost use Rattle.nbt_lease.specs.Config.{ConfigValue};
 ghost use Rattle.nbt_node.specs.Node.{NodeValue};
@@ -38,7 +38,7 @@ ghost use Rattle.nbt_net.specs.Starts.{StartResumesAnEarlierServer};
 ghost use Rattle.nbt_net.specs.Turns.{BrokenTurnsAreLived, CrashCutsALifeShort, HostTurnsAreLived, HostsLiveOn, ServerRunsAreLived, ServerTurnsAreLived};
 ghost use Rattle.nbt_net.specs.Wire.{Happening};
 ghost use Rattle.nbt_net.specs.BareWorking.{Bare, BareStarts, BareWorkIsLived, IsBareAtWork};
-ghost use Rattle.nbt_net.specs.Working.{HasWorked, PutsFront, WorkIsLived};
+ghost use Rattle.nbt_net.specs.Working.{HasWorked, HaveAnyPair, PutsFront, WorkIsLived};
 
 use nbt_port::{Clock, Port};
 use nbt_store::{Disk, Store};
@@ -82,10 +82,11 @@ pub fn a_whole_host_is_lived()
 /// Whatever a server does with its devices, one thing after another in any order, is a life of it, call by call: turns, also those in which its port
 /// fails, readings of its clock, looks at its file, and other fronts that take the place of its own between two calls. It goes on, or its store failed
 /// at last (`kept`); its port's and its store's calls are then those of a run of a server that keeps its leases. Where no reply waits at first, one
-/// leaves no longer than a datagram's life after its request was read. Without a state (`bare`) it lives from its start on, and a reply leaves before the clock is read again.
+/// leaves no longer than a datagram's life after its request was read. Where its file is looked after with headers of its own alone, as those with
+/// one start, each new file is begun with one of them. Without a state (`bare`) it lives from its start on, and a reply leaves before the clock is read again.
 pub fn a_server_at_work_is_lived<P: Port, S: Store, C: Clock, D: Clock>()
-    ensures kept { (old new : Keeping (Fronted P) S C) → old.waiting.replies ≡ [] → HasWorked (FrontDoes P.does) PutsFront S.does C.tells D.tells old new
-        → WorkIsLived (FrontDoes P.does) PutsFront S.does C.tells old.server.table.config old new }
+    ensures kept { (own : Header → Bool) (old new : Keeping (Fronted P) S C) → HaveAnyPair (λ header. IsTrue (own header)) → old.waiting.replies ≡ [] → HasWorked (FrontDoes P.does) PutsFront S.does C.tells D.tells (λ header. IsTrue (own header)) old new
+        → WorkIsLived (FrontDoes P.does) PutsFront S.does C.tells (λ header. IsTrue (own header)) old.server.table.config old new }
     ensures bare { (config : ConfigValue) (boot : C) (first new : Bare (Fronted P) C) → BareStarts C.tells config boot first → IsBareAtWork (FrontDoes P.does) PutsFront C.tells first new
         → BareWorkIsLived (FrontDoes P.does) PutsFront C.tells config boot first new }
 {}
@@ -162,8 +163,9 @@ pub fn a_crash_leaves_the_header_that_was_written<D: Disk>()
 }
 
 /// So a start that finds what a crash left of a server's disk, and goes on, finds what that server left, with its start, its life and its longest
-/// lease (`found`). It is a premise that each new file was begun with a header that has these. And so a server whose store is over a disk lives
-/// over any number of crashes, each at or within any call of its devices: what holds as it begins holds as it begins again (`next`).
+/// lease (`found`). It is a premise that each new file was begun with a header that has these. `nbt_whole` says of a whole server that it was. And so
+/// a server whose store is over a disk lives over any number of crashes, each at or within any call of its devices: what holds as it begins holds as
+/// it begins again (`next`).
 pub fn a_start_finds_what_the_disk_kept<D: Disk>()
     ensures found { StartFindsLeft D.does }
     ensures next { DiskNextStart D.does }

@@ -5,6 +5,8 @@ use Rattle.nbt_port.specs.Until.{until_of}
 use Rattle.nbt_port.specs.declared.ahead.Ahead.{Ahead}
 use Rattle.nbt_port.specs.declared.fault.Fault.TheVariants as why
 use Rattle.nbt_store.specs.declared.beginning.Begun.{Begun}
+use Rattle.nbt_server.specs.Calls.{limited}
+use Rattle.nbt_server.specs.Serving.{ServerValue}
 use Rattle.nbt_serve.specs.Sharing.{share_of}
 use Rattle.nbt_serve.specs.Waiting.{none_waits}
 use Rattle.nbt_nbns.specs.Folders.{FolderDoes}
@@ -19,12 +21,17 @@ use Rattle.nbt_nbns.specs.declared.first_line.Manner.{Manner}
 use Rattle.nbt_nbns.specs.declared.state.State.{State}
 use Rattle.nbt_net.specs.Again.{StartBeginsARun}
 use Rattle.nbt_net.specs.BareWorking.{IsBareAtWork}
-use Rattle.nbt_net.specs.Working.{PutsFront}
+use Rattle.nbt_net.specs.Headers.{IsHeaderOf}
+use Rattle.nbt_net.specs.Working.{HaveAnyPair, PutsFront}
 use Rattle.nbt_net.proofs.BareWorking.{bare_work_is_lived}
 use Rattle.nbt_net.proofs.Started.{begun_config}
 use Rattle.nbt_net.proofs.Working.{work_is_lived}
 use Rattle.nbt_whole.specs.Nbns.{bare_of, NbnsIsLived, KeptIsLived, NbnsAreLived, FailedNbnsAreLived, KeptAreLived, FailedKeptAreLived}
 use Rattle.nbt_whole.proofs.Unfolded.{Finished, bare_stayed, bare_ended, stayed, ended_early}
+
+-- a header of a server is one with another pair too
+any_pair : (server : ServerValue) → HaveAnyPair (IsHeaderOf server)
+any_pair server header moment time own = record { start_is = own.start_is; life_is = own.life_is; longest_is = own.longest_is }
 
 module _ (a : NbnsArguments) where
   -- without a state
@@ -47,22 +54,24 @@ module _ (a : NbnsArguments) where
   state_at_first b = record { store = false; header = b.header; share = share_of a.changes_per_client; waiting = none_waits b.header.last; teller = [] }
 
   abbrev FinishedHere : Nbns (Ahead ℕ) → Nbns (Ahead ℕ) → Type 0
-  FinishedHere first last = Finished (PortDoes a.strict) PortFailures FolderDoes (TellsAhead (SteadyTells SystemShows)) MachineTells (Journals MachineTells Stays) NotesNames first last
+  FinishedHere first last = Finished (PortDoes a.strict) PortFailures FolderDoes (TellsAhead (SteadyTells SystemShows)) MachineTells (Journals MachineTells Stays) NotesNames (IsHeaderOf first.served.server) (any_pair first.served.server) first last
 
   kept_lived : StartBeginsARun → (state : StateFolder) (first last : Nbns (Ahead ℕ)) (manner : Manner) (s : StartsKept a state manner first) → FinishedHere first last → KeptIsLived a s.begun first last
   kept_lived law state first last manner s over = subst (λ (here : Nbns (Ahead ℕ)). FinishedHere here last → KeptIsLived a s.begun here last) (sym s.first_is) from over
     where
       from : FinishedHere (kept_at_first a s.begun s.told.monotonic s.told.time first.text) last → KeptIsLived a s.begun (kept_at_first a s.begun s.told.monotonic s.told.time first.text) last
       from over =
-          let end = over (state_at_first s.begun) refl in
+          let begun = law s.found.found s.begun (Some a.rows_per_client) s.found.begins in
+          let own = begun.1 in
+          let end = over (state_at_first s.begun) refl (record { start_is = own.start; life_is = own.life; longest_is = own.longest }) in
           record {
             old = state_at_first s.begun;
             new = end.state;
             was_there = refl;
             is_there = end.there;
             began = refl;
-            begins = (law s.found.found s.begun (Some a.rows_per_client) s.found.begins).0;
-            lived = work_is_lived (PortDoes a.strict) PutsFront FolderDoes (TellsAhead (SteadyTells SystemShows)) MachineTells a.config _ _ (begun_config s.found.found s.begun s.found.begins ∙ s.found.config_is) refl end.worked;
+            begins = begun.0;
+            lived = work_is_lived (PortDoes a.strict) PutsFront FolderDoes (TellsAhead (SteadyTells SystemShows)) MachineTells (IsHeaderOf (limited (Some a.rows_per_client) s.begun.server)) (any_pair (limited (Some a.rows_per_client) s.begun.server)) a.config _ _ (begun_config s.found.found s.begun s.found.begins ∙ s.found.config_is) refl end.worked;
           }
 
 pub nbns_are_lived : NbnsAreLived
@@ -75,8 +84,8 @@ failed_nbns_are_lived a old_text text ran = bare_lived a ran.first ran.last ran.
 
 pub kept_are_lived : StartBeginsARun → KeptAreLived
 kept_are_lived law a state old_text text ran = kept_lived a law state ran.first ran.last ran.manner ran.begins
-    (stayed (PortDoes a.strict) PortFailures FolderDoes (TellsAhead (SteadyTells SystemShows)) MachineTells (Journals MachineTells Stays) NotesNames (until_of ran.first.served.server.last a.time) ran.first ran.last ran.goes_on)
+    (stayed (PortDoes a.strict) PortFailures FolderDoes (TellsAhead (SteadyTells SystemShows)) MachineTells (Journals MachineTells Stays) NotesNames (IsHeaderOf ran.first.served.server) (any_pair ran.first.served.server) (until_of ran.first.served.server.last a.time) ran.first ran.last ran.goes_on)
 
 pub failed_kept_are_lived : StartBeginsARun → FailedKeptAreLived
 failed_kept_are_lived law a state cause old_text text ran = kept_lived a law state ran.first ran.last ran.manner ran.begins
-    (ended_early (PortDoes a.strict) PortFailures FolderDoes (TellsAhead (SteadyTells SystemShows)) MachineTells (Journals MachineTells Stays) NotesNames (until_of ran.first.served.server.last a.time) cause ran.first ran.last ran.goes_on)
+    (ended_early (PortDoes a.strict) PortFailures FolderDoes (TellsAhead (SteadyTells SystemShows)) MachineTells (Journals MachineTells Stays) NotesNames (IsHeaderOf ran.first.served.server) (any_pair ran.first.served.server) (until_of ran.first.served.server.last a.time) cause ran.first ran.last ran.goes_on)

@@ -14,6 +14,7 @@ use Rattle.nbt_nbns.specs.declared.arguments.StateFolder.{StateFolder}
 use Rattle.nbt_nbns.specs.declared.state.State.{State}
 use Rattle.nbt_net.specs.Again.{held_of, kept_of}
 use Rattle.nbt_net.specs.BareWorking.{Bare, BareWorkIsLived}
+use Rattle.nbt_net.specs.Headers.{IsHeaderOf}
 use Rattle.nbt_net.specs.Working.{PutsFront, held_in, WorkIsLived}
 
 -- ---- without a state
@@ -36,7 +37,7 @@ FailedNbnsAreLived = (a : NbnsArguments) (old_text text : Option (List ℕ)) →
 -- ---- with a state
 
 -- A server with a state lived from what it began as to what it was last; it has a state then too. A run begins with what it began as, with its
--- limit of clients.
+-- limit of clients. Each new file is begun with a header of that server: with its start, its life and its longest lease.
 pub record KeptIsLived (a : NbnsArguments) (begun : Begun) (first last : Nbns (Ahead ℕ)) : Type 0 where
   pub old : State Bool
   pub new : State Bool
@@ -44,7 +45,7 @@ pub record KeptIsLived (a : NbnsArguments) (begun : Begun) (first last : Nbns (A
   pub is_there : last.served.state ≡ Some new
   pub began : held_in (keeping_of first.served old) ≡ held_of (Some a.rows_per_client) begun
   pub begins : Begins (kept_of begun) begun.header.last (held_of (Some a.rows_per_client) begun)
-  pub lived : WorkIsLived (PortDoes a.strict) PutsFront FolderDoes (TellsAhead (SteadyTells SystemShows)) a.config (keeping_of first.served old) (keeping_of last.served new)
+  pub lived : WorkIsLived (PortDoes a.strict) PutsFront FolderDoes (TellsAhead (SteadyTells SystemShows)) (IsHeaderOf first.served.server) a.config (keeping_of first.served old) (keeping_of last.served new)
 
 -- So it does until its time is over, or until its port fails for good, or its store fails.
 abbrev pub KeptAreLived : Type 0

@@ -11,6 +11,7 @@ ghost use Rattle.nbt_whole.specs.Said.{WhatIsWatchedIsSaid, RunsBeginNew};
 /// server with a state (`kept`), and what `KeptFails`, which is of that contract too, says of one whose port or store fails (`kept_failed`), from the server that it begins as. All that
 /// its port, its clock and its store did stands in one order, and at each reading of the clock the acts at that time. A front that is read anew
 /// takes the place of its own between two calls. With a state a run begins with that server, and the calls of the port and the store are those of that run;
+/// each new file is begun with that server's start, its life and its longest lease;
 /// a reply may leave later than at its act, but no longer than a datagram's life after its request was read.
 pub fn a_whole_server_is_lived()
     ensures bare { NbnsAreLived }
