@@ -30,6 +30,3 @@ pub use note::{Asked, Leaving, Note, Settled};
 pub use replies::write_claim;
 pub use sending::Reply;
 pub use tally::AskTally;
-
-#[test]
-fn tries() {}
