@@ -11,7 +11,7 @@ use Rattle.nbt_confirm.specs.Inquiries.{name_port}
 use Rattle.nbt_confirm.specs.Waiting.{taken_as}
 use Rattle.nbt_waits.specs.declared.asking.Asking.{Asking}
 use Rattle.nbt_waits.specs.declared.note.Asked.{Asked}
-use Rattle.nbt_waits.specs.declared.note.Asked.TheVariants as as
+use Rattle.nbt_waits.specs.declared.note.Asked.TheVariants as came
 use Rattle.nbt_waits.specs.declared.note.Note.{Note}
 use Rattle.nbt_waits.specs.declared.note.Leaving.{Leaving}
 use Rattle.nbt_waits.specs.declared.note.Settled.{Settled}
@@ -80,17 +80,17 @@ refused asked rcode r asking = answered asked (reply rcode 0 r) r asking
 
 -- a resend isn't noted
 abbrev pub waiting_note : Taken → Request → Option Note
-waiting_note taken.Waits r = Some (note_of (as.Waits r.asked) r)
+waiting_note taken.Waits r = Some (note_of (came.Waits r.asked) r)
 waiting_note taken.Resent r = None
-waiting_note taken.ClientFull r = Some (note_of as.Lost r)
-waiting_note taken.Full r = Some (note_of as.Lost r)
+waiting_note taken.ClientFull r = Some (note_of came.Lost r)
+waiting_note taken.Full r = Some (note_of came.Lost r)
 
 -- it waits, unless too many do, or the same one does
 abbrev pub waits : Request → Asking → Done
 waits r old = record { note = waiting_note (taken_as old.waits.requests r) r; sends = []; asking = waiting r old }
 
 abbrev pub granted_as : Asking → Asked
-granted_as old = if are_full old.granted then as.Lost else as.Granted
+granted_as old = if are_full old.granted then came.Lost else came.Granted
 
 -- the server has it next, unless too many come to it
 abbrev pub hands_on : Request → Asking → Done

@@ -22,7 +22,7 @@ use Rattle.nbt_confirm.specs.Further.{is_at, is_confirmed, kept_at, put_as, reac
 use Rattle.nbt_confirm.specs.Inquiries.{ConfirmedValue, MachineValue}
 use Rattle.nbt_confirm.specs.Waiting.{answer_of, is_for, outcome_of, wait_form, wait_seconds}
 use Rattle.nbt_waits.specs.declared.asking.Asking.{Asking}
-use Rattle.nbt_waits.specs.declared.note.Asked.TheVariants as as
+use Rattle.nbt_waits.specs.declared.note.Asked.TheVariants as came
 use Rattle.nbt_waits.specs.Asking.{asking, end_by, lease_at, waiting, without_waiting}
 use Rattle.nbt_waits.specs.Doing.{Done, answered, back, by_way, hands_on, note_of, noted, refused, reply, waits}
 
@@ -40,9 +40,9 @@ is_reached further r = list_any (λ row. is_at r.name r.addr row && row.reached)
 -- listed before it has answered; and the reply goes to the holder's address too, since it may not come to its own.
 abbrev pub accepts : (seconds : ℕ) → Request → Asking → Done
 accepts seconds r old = if is_reached old.further r
-    then answered (as.Confirmed seconds) (reply 0 seconds r) r old
+    then answered (came.Confirmed seconds) (reply 0 seconds r) r old
     else record {
-      note = Some (note_of (as.Confirmed seconds) r);
+      note = Some (note_of (came.Confirmed seconds) r);
       sends = back r (reply 0 seconds r) ∷ by_way (record { asked = r.asked; local = r.local }) (reply 0 seconds r) ∷ [];
       asking = waiting (asking a.Reach r.addr r) old;
     }
@@ -55,8 +55,8 @@ is_full table now name addr old = not (list_any (is_at name addr) old.further) &
 abbrev pub accepts_put : Put → (seconds : ℕ) → Request → Asking → Done
 accepts_put put.Begun seconds r new = accepts seconds r new
 accepts_put put.Renewed seconds r new = accepts seconds r new
-accepts_put put.NameFull seconds r new = refused as.Full server_error r new
-accepts_put put.Full seconds r new = refused as.Full server_error r new
+accepts_put put.NameFull seconds r new = refused came.Full server_error r new
+accepts_put put.Full seconds r new = refused came.Full server_error r new
 
 abbrev pub puts : (now until end : ℕ) → Request → ConfirmedValue → Asking → Done
 puts now until end r c old = accepts_put (put_as (kept_at now old.further) c) (seconds_until now (min until end)) r
@@ -64,7 +64,7 @@ puts now until end r c old = accepts_put (put_as (kept_at now old.further) c) (s
 
 abbrev pub puts_until : Option ℕ → TableValue → (now : ℕ) → Request → ConfirmedValue → Asking → Done
 puts_until None table now r c old = hands_on r old
-puts_until (Some end) table now r c old = if is_full table now r.name r.addr old then refused as.Full server_error r old else puts now (until_of table now r.ttl) end r c old
+puts_until (Some end) table now r c old = if is_full table now r.name r.addr old then refused came.Full server_error r old else puts now (until_of table now r.ttl) end r c old
 
 -- The holder's machine listed the request's address: it is put among the further addresses while the holder has its lease. Where that is over, or
 -- it is the holder's address itself, the server has the request.
@@ -83,19 +83,19 @@ holder_by (Some lease) r = lease.addr
 abbrev pub tells_to_wait : Option Lease → (now : ℕ) → Request → Asking → Done
 tells_to_wait None now r old = hands_on r old
 tells_to_wait (Some lease) now r old =
-    answered (as.Told (wait_seconds now lease.end)) (wait_form r (wait_seconds now lease.end)) r (waiting (asking (a.LeaseEnd lease.end) r.asked r) old)
+    answered (came.Told (wait_seconds now lease.end)) (wait_form r (wait_seconds now lease.end)) r (waiting (asking (a.LeaseEnd lease.end) r.asked r) old)
 
 -- What is done with it, a line for each outcome; `c` is the further address that its address was confirmed to be, if it was.
 abbrev pub settles : TableValue → (now : ℕ) → Outcome → Request → (c : Option ConfirmedValue) → Asking → Done
 settles table now o.Further r c old = confirms table now r c old
-settles table now o.Refuse r c old = refused (as.Refused (holder_by (lease_at table now r.name) r)) active_error r old
+settles table now o.Refuse r c old = refused (came.Refused (holder_by (lease_at table now r.name) r)) active_error r old
 settles table now o.AskRequester r c old = waits (asking a.Requester r.from.ip r) old
 settles table now o.AwaitLeaseEnd r c old = tells_to_wait (lease_at table now r.name) now r old
 settles table now o.Grant r c old = hands_on r old
 settles table now o.GrantSource r c old = hands_on (record r { addr = r.from.ip }) old
-settles table now o.NotOwn r c old = refused as.NotOwn refused_error r old
-settles table now o.Reached r c old = noted as.Reached r (record old { further = with_first (is_at r.name r.addr) reached_row old.further })
-settles table now o.Nothing r c old = noted as.Unanswered r old
+settles table now o.NotOwn r c old = refused came.NotOwn refused_error r old
+settles table now o.Reached r c old = noted came.Reached r (record old { further = with_first (is_at r.name r.addr) reached_row old.further })
+settles table now o.Nothing r c old = noted came.Unanswered r old
 
 -- ---- the next one
 

@@ -54,7 +54,7 @@ impl Asking {
         ensures followed { IfSome result (λ settled. Follows table.now now self.old (done_by settled [] self.new)) }
         ensures none { IfNone result ((find (is_over now) self.old.further ≡ None) × (self.new ≡ self.old)) }
     {
-        let row = first_over(self.further.rows(), now)?;
+        let row = first_over(self.further.rows(), now.get())?;
         let lease = lease_of(table, now, &row.name);
         Some(self.follow(lease, now, &row))
     }
@@ -140,10 +140,9 @@ fn taking_over(row: &Further, now: Moment, name: &Name) -> Request
 }
 
 /// A copy of the first row that isn't listed any longer, though its own refreshes last.
-fn first_over(rows: &[Further], now: Moment) -> Option<Further>
+fn first_over(rows: &[Further], now: u64) -> Option<Further>
     ensures { result ≡ find (is_over now) rows.now }
 {
-    let now = now.get();
     for row in rows {
         if row.end <= now && now < row.renewed_until {
             return Some(copy_of(row));

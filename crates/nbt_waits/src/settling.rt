@@ -1,16 +1,15 @@
 //! What is done with a request that waited, by what came of the answer.
 
-ghost use Rattle.std.specs.Prelude.{◌≡◌, ◌≤◌, ◌&&◌, nat_eq, [], Option, Some, None, IfSome, IfNone};
+ghost use Rattle.std.specs.Prelude.{◌≡◌, ◌+◌, ◌≤◌, ◌&&◌, nat_eq, [], Option, Some, None, IfSome, IfNone};
 ghost use Rattle.std.specs.List.{find, list_any};
 ghost use Rattle.nbt_lease.specs.Config.{milliseconds};
-ghost use Rattle.nbt_lease.specs.declared.config.TheConstants.{LONGEST_MOST};
+ghost use Rattle.nbt_lease.specs.declared.config.TheConstants.{LONGEST_MOST as longest_most};
 ghost use Rattle.nbt_confirm.specs.Further.{is_at, is_confirmed};
 ghost use Rattle.nbt_confirm.specs.Inquiries.{ConfirmedValue};
 ghost use Rattle.nbt_confirm.specs.declared.request.Awaits.TheVariants as awaited;
 ghost use Rattle.nbt_waits.specs.Asking.{asking, lease_at};
-ghost use Rattle.nbt_waits.specs.declared.asking.Asking.{Asking as AskingValue};
-ghost use Rattle.nbt_waits.specs.Doing.{done_by, refused, reply};
-ghost use Rattle.nbt_waits.specs.Settling.{Serves, ServesSilence, accepts, accepts_put, confirms, further_of, holder_by, holds_back, is_full, is_reached, settles, tells_to_wait, waited_for, waits_for};
+ghost use Rattle.nbt_waits.specs.Doing.{done_by, note_of, refused, reply};
+ghost use Rattle.nbt_waits.specs.Settling.{Serves, ServesSilence, accepts, accepts_put, confirms, further_of, holder_by, holds_back, is_full, is_reached, puts, puts_until, settles, tells_to_wait, waited_for, waits_for};
 
 use crate::asking::Asking;
 use crate::leases::{end_of, lease_of, seconds_until, until_of};
@@ -18,8 +17,8 @@ use crate::note::{Asked, Leaving, Note, Settled};
 use crate::replies::{ACTIVE, REFUSED, SERVER_ERROR, write_reply};
 use arrayvec::ArrayVec;
 use nbt_confirm::{
-    Awaits, Confirmed, Further, Machine, Outcome, Put, Request, Served, Silence, Way,
-    wait_seconds, write_wait,
+    Awaits, Confirmed, Further, Machine, Outcome, Put, Request, Served, Silence, Way, wait_seconds,
+    write_wait,
 };
 use nbt_lease::{Moment, Table};
 use nbt_name::Name;
@@ -133,14 +132,45 @@ impl Asking {
         let Some(confirmed) = further else {
             return self.hand_on(request);
         };
-        let Some(end) = end_of(table, now, confirmed.name(), confirmed.holder()) else {
-            return self.hand_on(request);
-        };
+        match end_of(table, now, confirmed.name(), confirmed.holder()) {
+            Some(end) => self.put_until(end, table, now, request, &confirmed, out),
+            None => self.hand_on(request),
+        }
+    }
+
+    /// The same while the holder has its lease, until `end`.
+    fn put_until(
+        &mut self,
+        end: u64,
+        table: &Table,
+        now: Moment,
+        request: Request,
+        confirmed: &Confirmed,
+        out: &mut ArrayVec<u8, 576>,
+    ) -> Settled
+        ensures { done_by result out.new.items self.new ≡ puts_until (Some end) table.now now request confirmed.now self.old }
+    {
         if self.is_full(table, now, &request.name, request.addr) {
             return refuse(Asked::Full, SERVER_ERROR, &request, out);
         }
         let until = until_of(table, now, request.ttl);
-        let put = self.further.put(now, &confirmed, until, end);
+        self.put(now, until, end, request, confirmed, out)
+    }
+
+    /// It is put among the further addresses, to last by its own request until `until`.
+    fn put(
+        &mut self,
+        now: Moment,
+        until: u64,
+        end: u64,
+        request: Request,
+        confirmed: &Confirmed,
+        out: &mut ArrayVec<u8, 576>,
+    ) -> Settled
+        requires { until ≤ now + milliseconds longest_most }
+        ensures { done_by result out.new.items self.new ≡ puts now until end request confirmed.now self.old }
+    {
+        let put = self.further.put(now, confirmed, until, end);
         self.accept_put(put, seconds_until(now, until.min(end)), request, out)
     }
 
@@ -212,7 +242,8 @@ impl Asking {
 fn refuse(asked: Asked, rcode: u8, request: &Request, out: &mut ArrayVec<u8, 576>) -> Settled
     requires { rcode ≤ 15 }
     ensures octets { out.new.items ≡ reply rcode 0 request.now }
-    ensures settled { (asking : AskingValue) → done_by result out.new.items asking ≡ refused asked rcode request.now asking }
+    ensures note { result.note ≡ Some (note_of asked request.now) }
+    ensures leaving { result.leaving ≡ Some (record { to = request.now.from; local = request.now.local; also = None }) }
 {
     write_reply(request, rcode, 0, out);
     Settled::answered(asked, request)
