@@ -2,3 +2,5 @@ pub mod Asking
 pub mod Doing
 pub mod Settling
 pub mod Lapsing
+pub mod Sending
+pub mod Tally

@@ -15,13 +15,17 @@ pub mod laws;
 mod leases;
 mod note;
 mod replies;
+mod sending;
 mod settling;
+mod tally;
 
 pub use asking::Asking;
 pub use granted::Granted;
 pub use lapsing::UNASKED;
 pub use note::{Asked, Leaving, Note, Settled};
 pub use replies::write_claim;
+pub use sending::Reply;
+pub use tally::AskTally;
 
 #[test]
 fn tries() {}

@@ -323,7 +323,7 @@ fn further_in(machine: &Machine, addr: u32) -> Option<Confirmed>
 }
 
 /// Whether one of these is of this name and address.
-fn is_there(rows: &[Further], name: &Name, addr: u32) -> bool
+pub(crate) fn is_there(rows: &[Further], name: &Name, addr: u32) -> bool
     ensures { result ≡ list_any (is_at name.now addr) rows.now }
 {
     rows.iter().any(|row| row.name == *name && row.addr == addr)
