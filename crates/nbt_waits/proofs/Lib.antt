@@ -8,3 +8,5 @@ pub mod Machines
 pub mod Lasting
 -- what is done with the first request that an answer serves
 pub mod Serving
+-- which claim octets spell, and which additional record they have
+pub mod Reading

@@ -8,20 +8,24 @@
 //! arguments.
 #![tactic(auto)]
 
+mod aside;
 mod asking;
 mod granted;
 mod lapsing;
 pub mod laws;
 mod leases;
+mod looking;
 mod note;
 mod replies;
 mod sending;
 mod settling;
 mod tally;
 
+pub use aside::Aside;
 pub use asking::Asking;
 pub use granted::Granted;
 pub use lapsing::UNASKED;
+pub use looking::is_aside;
 pub use note::{Asked, Leaving, Note, Settled};
 pub use replies::write_claim;
 pub use sending::Reply;

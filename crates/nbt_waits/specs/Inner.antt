@@ -1,0 +1,2 @@
+-- What only the contracts of private functions cite: a caller needs none of it.
+pub mod Placing
