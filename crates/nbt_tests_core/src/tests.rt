@@ -15,6 +15,7 @@ mod node;
 mod packets;
 mod server;
 mod sessions;
+mod waiting;
 mod world;
 
 /// The sixteen octets of names: FRED's and TEAM's, filled with spaces, and of the name that stands for all.

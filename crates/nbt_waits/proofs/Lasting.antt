@@ -1,5 +1,5 @@
 -- How long the first lease of a name lasts.
-use Rattle.std.proofs.Common.{◌≡◌, ◌+◌, ◌≤◌, ℕ, List, [], ◌∷◌, Some, None, refl, arith}
+use Rattle.std.proofs.Common.{◌≡◌, ◌+◌, ◌≤◌, ℕ, List, [], ◌∷◌, arith}
 use Rattle.std.specs.Prelude.{Option, IfSome}
 use Rattle.nbt_lease.specs.Config.{ConfigValue, milliseconds}
 use Rattle.nbt_lease.specs.Lease.{AreSound, latest_end}

@@ -1,6 +1,6 @@
 -- The addresses that a machine listed, and which of them is a further one.
-use Rattle.std.proofs.Common.{◌≡◌, ℕ, true, false, Bool, List, Some, None, refl, ap, ◌∙◌, subst}
-use Rattle.std.specs.Prelude.{◌&&◌, ◌≢◌, ◌↔◌, not, nat_eq, Option, Contains, IsSome, IfSome, slice_index_or}
+use Rattle.std.proofs.Common.{◌≡◌, ℕ, true, false, List, Some, None, refl, ap, ◌∙◌, subst}
+use Rattle.std.specs.Prelude.{◌≢◌, ◌↔◌, nat_eq, Option, Contains, IsSome, IfSome, slice_index_or}
 use Rattle.std.specs.List.{list_any}
 use Rattle.std.proofs.lemmas.Bool.{eq-eqb, eqb-true, eqb-false, ne_eqb}
 use Rattle.std.proofs.lemmas.List.Folds.{Any-from_list_any, list_any-from_Any}

@@ -1,5 +1,5 @@
 -- The first request that passes a test, and what is left where none does.
-use Rattle.std.proofs.Common.{◌≡◌, true, false, Bool, List, [], ◌∷◌, Option, Some, None, refl, sym, ap, ◌∙◌}
+use Rattle.std.proofs.Common.{◌≡◌, true, false, Bool, List, [], ◌∷◌, Option, Some, None, refl, ap, ◌∙◌}
 use Rattle.std.specs.Prelude.{IfNone}
 use Rattle.std.specs.List.{find}
 use Rattle.std.specs.Option.{option_map}

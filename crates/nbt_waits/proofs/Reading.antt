@@ -1,6 +1,6 @@
 -- Which claim octets spell, and which additional record they have, by what a reader returned.
 use Rattle.std.proofs.Common.{◌≡◌, ℕ, Bool, Option, Some, None, refl, sym, ap, subst, ◌∙◌, inl, inr, true}
-use Rattle.std.specs.Prelude.{◌↔◌, ◌⊎◌, ◌≢◌, IsTrue, List, Result, Ok, Err, false, not}
+use Rattle.std.specs.Prelude.{◌↔◌, IsTrue, List, Result, Ok, Err, false, not}
 use Rattle.nbt_packet.specs.declared.fault.Fault.{Fault}
 use Rattle.nbt_packet.specs.declared.message.Message.{Message}
 use Rattle.nbt_packet.specs.declared.message.Message.TheVariants as code

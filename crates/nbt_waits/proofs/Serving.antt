@@ -1,9 +1,8 @@
 -- What is done with the first request that an answer serves.
-use Rattle.std.proofs.Common.{◌≡◌, ℕ, Option, Some, None, refl, sym, ap, ◌∙◌}
+use Rattle.std.proofs.Common.{◌≡◌, ℕ, Option, Some, ap, ◌∙◌}
 use Rattle.std.specs.List.{find}
 use Rattle.std.specs.Option.{option_map}
 use Rattle.nbt_lease.specs.Lease.{TableValue}
-use Rattle.nbt_confirm.specs.declared.outcome.Answer.TheVariants.{Silent}
 use Rattle.nbt_confirm.specs.declared.outcome.Outcome.{Outcome}
 use Rattle.nbt_confirm.specs.declared.request.Request.{Request}
 use Rattle.nbt_confirm.specs.declared.waits.Served.{Served}

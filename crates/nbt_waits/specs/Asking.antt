@@ -1,6 +1,5 @@
 -- What a server has beside its leases that asks machines which addresses they have (our profile).
-use Rattle.std.specs.Prelude.{◌≡◌, ℕ, Bool, ◌&&◌, nat_eq, nat_le, if◌then◌else◌, List, [], ◌∷◌, ◌++◌, length, Option, Some, None}
-use Rattle.std.specs.List.{find}
+use Rattle.std.specs.Prelude.{ℕ, Bool, ◌&&◌, nat_eq, nat_le, if◌then◌else◌, List, [], ◌∷◌, ◌++◌, length, Option, Some, None}
 use Rattle.nbt_name.specs.Wire.{NameValue}
 use Rattle.nbt_name.specs.declared.addr.Kind.TheVariants.{Unique}
 use Rattle.nbt_packet.specs.declared.message.Registration.{Registration}

@@ -1,6 +1,5 @@
 -- Which datagrams are looked at before a server handles them, and what becomes of these (our profile).
-use Rattle.std.specs.Prelude.{◌≡◌, ◌≢◌, ◌⊎◌, ℕ, Bool, true, List, Option, Some}
-use Rattle.nbt_name.specs.declared.addr.Addr.{Addr}
+use Rattle.std.specs.Prelude.{◌≡◌, ◌≢◌, ◌⊎◌, ℕ, Bool, true, List, Some}
 use Rattle.nbt_packet.specs.declared.message.Registration.{Registration}
 use Rattle.nbt_packet.specs.Message.{IsRequest, opcode_of, refresh, registration}
 use Rattle.nbt_packet.specs.Packet.{PacketIs, PacketValue, RecordValue}

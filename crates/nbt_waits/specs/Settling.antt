@@ -10,7 +10,6 @@ use Rattle.nbt_confirm.specs.declared.further.Further.{Further}
 use Rattle.nbt_confirm.specs.declared.further.Put.{Put}
 use Rattle.nbt_confirm.specs.declared.further.Put.TheVariants as put
 use Rattle.nbt_confirm.specs.declared.inquiry.Inquiry.{Inquiry}
-use Rattle.nbt_confirm.specs.declared.outcome.Answer.{Answer}
 use Rattle.nbt_confirm.specs.declared.outcome.Answer.TheVariants.{Silent}
 use Rattle.nbt_confirm.specs.declared.outcome.Outcome.{Outcome}
 use Rattle.nbt_confirm.specs.declared.outcome.Outcome.TheVariants as o

@@ -110,7 +110,9 @@ impl Aside {
         }
         self.place = Place::Nowhere;
         octets.clear();
-        octets.try_extend_from_slice(self.octets.as_slice()).unwrap();
+        octets
+            .try_extend_from_slice(self.octets.as_slice())
+            .unwrap();
         Some(self.came)
     }
 }

@@ -43,13 +43,7 @@ pub fn is_aside(came: Came, octets: &[u8], is_asking: bool) -> bool
 impl Asking {
     /// Looks at a claim that was set aside, which came so: it waits for what its sender says, where the sender is asked first. `None` where
     /// it comes to the server at once. `now` is at least the table's `last()`.
-    pub fn look(
-        &mut self,
-        table: &Table,
-        now: Moment,
-        came: Came,
-        octets: &[u8],
-    ) -> Option<Settled>
+    pub fn look(&mut self, table: &Table, now: Moment, came: Came, octets: &[u8]) -> Option<Settled>
         requires { table.now.last ≤ now }
         ensures waits { IfSome result (λ settled. LooksFirst table.now now came octets.now self.old (done_by settled [] self.new)) }
         ensures none { IfNone result (((r : Claimed) (awaits : Awaited) → Claims octets.now r → ¬ AsksFirst table.now now came.from r awaits) × (self.new ≡ self.old)) }
