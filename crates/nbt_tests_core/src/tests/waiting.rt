@@ -303,7 +303,7 @@ struct Site {
     out: ArrayVec<u8, 576>,
 }
 
-fn site<R: Abort + AllocGlobal>(rt: &R) -> Site {
+fn nothing_waits<R: Abort + AllocGlobal>(rt: &R) -> Site {
     Site {
         server: started(rt, 4096, 0).expect(rt, "a server"),
         asking: Asking::new(rt.alloc(), 64).expect(rt, "memory"),
@@ -525,7 +525,7 @@ fn play<R: Abort + AllocGlobal>(rt: &R, site: &mut Site, steps: &[(u64, Step)]) 
 #[test]
 fn a_further_address_of_a_machine(rt: HostRuntime) {
     for (about, steps) in LISTED {
-        let mut site = site(&rt);
+        let mut site = nothing_waits(&rt);
         expect_in(&rt, about, !steps.is_empty() && site.asking.is_idle());
         play(&rt, &mut site, IS_LISTED);
         play(&rt, &mut site, steps);
@@ -536,7 +536,7 @@ fn a_further_address_of_a_machine(rt: HostRuntime) {
 fn requests_that_wait(rt: HostRuntime) {
     for (about, steps) in OTHERS {
         expect_in(&rt, about, !steps.is_empty());
-        play(&rt, &mut site(&rt), steps);
+        play(&rt, &mut nothing_waits(&rt), steps);
     }
 }
 
@@ -586,12 +586,16 @@ fn a_datagram_that_was_set_aside_comes_back_once(rt: HostRuntime) {
     let mut aside = Aside::new();
     let mut out = ArrayVec::new();
     aside.put(came(TWO, MULTI_HOMED), b"abc");
-    expect_in(&rt, &"there", aside.is_there() && aside.octets() == b"abc");
+    expect_in(
+        &rt,
+        &"there",
+        aside.is_there() && aside.octets() == b"abc".as_slice(),
+    );
     expect_in(&rt, &"aside", aside.take_back(&mut out).is_none());
     aside.come_back();
     let back = aside.take_back(&mut out);
     expect_eq_in(&rt, &"back", &back, &Some(came(TWO, MULTI_HOMED)));
-    expect_in(&rt, &"octets", out.as_slice() == b"abc");
+    expect_in(&rt, &"octets", out.as_slice() == b"abc".as_slice());
     expect_in(&rt, &"once", aside.take_back(&mut out).is_none());
     aside.put(aside.came(), b"");
     aside.let_go();
