@@ -10,3 +10,5 @@ pub mod Lasting
 pub mod Serving
 -- which claim octets spell, and which additional record they have
 pub mod Reading
+-- what is done keeps of the further addresses
+pub mod Keeping

@@ -6,3 +6,4 @@ pub mod Lapsing
 pub mod Sending
 pub mod Tally
 pub mod Looking
+pub mod Laws

@@ -604,6 +604,8 @@ fn a_datagram_that_was_set_aside_comes_back_once(rt: HostRuntime) {
 
 #[test]
 fn what_came_of_requests_is_counted(rt: HostRuntime) {
+    laws::a_further_address_was_confirmed();
+    laws::a_further_address_has_answered();
     laws::numbers();
     let mut tally = AskTally::new();
     tally.count(Asked::Full);
