@@ -29,7 +29,9 @@ use Rattle.nbt_waits.specs.Doing.{Done, Sent, by_way}
 use Rattle.nbt_waits.specs.Lapsing.{Follows, Wakes, passes_on}
 use Rattle.nbt_waits.specs.Looking.{LooksFirst, nothing, aside, back}
 use Rattle.nbt_waits.specs.Settling.{Serves, ServesSilence, holds_back}
-use Rattle.nbt_asking.specs.Port.{AskingPortValue, route_of}
+use Rattle.nbt_asking.specs.declared.desk.Desk.{Desk}
+use Rattle.nbt_asking.specs.Desk.{route_of}
+use Rattle.nbt_asking.specs.Port.{AskingPortValue}
 
 -- ---- what leaves
 
@@ -64,19 +66,19 @@ pub record Turned : Type 0 where
 abbrev pub with_pending : List Pending → Asking → Asking
 with_pending pending old = record old { waits = record old.waits { pending = pending } }
 
-module _ {P : Type 0} (table : TableValue) (now : ℕ) where
-  abbrev pub with_asking : Asking → AskingPortValue P → AskingPortValue P
+module _ (table : TableValue) (now : ℕ) where
+  abbrev pub with_asking : Asking → Desk → Desk
   with_asking asking old = record old { asking = asking }
 
   -- What is done, and what leaves; a line for each thing.
-  pub data Does (turned : Option Turned) (old : AskingPortValue P) : List DatagramValue → AskingPortValue P → Type 0 where
-    looks_first : (c : Came) (octets : List ℕ) (done : Done) → old.kept ≡ aside c octets → LooksFirst table now c octets old.asking done
-        → Does turned old (datagrams done.sends) (record old { kept = nothing; asking = done.asking })
-    lets_back : (c : Came) (octets : List ℕ) → old.kept ≡ aside c octets → Does turned old [] (record old { kept = back c octets })
-    hears_nobody : (c : Came) (octets : List ℕ) → old.kept ≡ aside c octets → Hears c.from octets old.asking.waits.pending None old.asking.waits.pending → Does turned old [] (record old { kept = nothing })
-    hears : (c : Came) (octets : List ℕ) (machine : MachineValue) (pending : List Pending) (sends : List DatagramValue) (new : Asking) → old.kept ≡ aside c octets
+  pub data Does (turned : Option Turned) (old : Desk) : List DatagramValue → Desk → Type 0 where
+    looks_first : (c : Came) (octets : List ℕ) (done : Done) → old.aside ≡ aside c octets → LooksFirst table now c octets old.asking done
+        → Does turned old (datagrams done.sends) (record old { aside = nothing; asking = done.asking })
+    lets_back : (c : Came) (octets : List ℕ) → old.aside ≡ aside c octets → Does turned old [] (record old { aside = back c octets })
+    hears_nobody : (c : Came) (octets : List ℕ) → old.aside ≡ aside c octets → Hears c.from octets old.asking.waits.pending None old.asking.waits.pending → Does turned old [] (record old { aside = nothing })
+    hears : (c : Came) (octets : List ℕ) (machine : MachineValue) (pending : List Pending) (sends : List DatagramValue) (new : Asking) → old.aside ≡ aside c octets
         → Hears c.from octets old.asking.waits.pending (Some machine) pending → AllDone (Serves table now machine) (with_pending pending old.asking) sends new
-        → Does turned old sends (record old { kept = nothing; asking = new })
+        → Does turned old sends (record old { aside = nothing; asking = new })
     gives_up : (p : Pending) (sends : List DatagramValue) (new : Asking) → find (is_unanswered now) old.asking.waits.pending ≡ Some p
         → AllDone (ServesSilence table now p.inquiry) (with_pending (without_first (is_unanswered now) old.asking.waits.pending) old.asking) sends new
         → Does turned old sends (with_asking new old)
@@ -100,10 +102,8 @@ TriesToSend does old d new = does old (sent d.route d.octets) new ⊎ does old (
 
 -- one thing is done, and all that leaves of it is sent
 pub record DoesOne {P : Type 0} (does : P → PortCall → P → Type 0) (table : TableValue) (now : ℕ) (turned : Option Turned) (old : AskingPortValue P) (sends : List DatagramValue) (new : AskingPortValue P) : Type 0 where
-  pub after : AskingPortValue P
-  pub did : Does table now turned old sends after
+  pub did : Does table now turned old.desk sends new.desk
   pub port_did : Chain (TriesToSend does) old.port sends new.port
-  pub new_is : new ≡ record after { port = new.port }
 
 -- some such things, one after the other
 abbrev pub Goes : {P : Type 0} → (does : P → PortCall → P → Type 0) → TableValue → (now : ℕ) → Option Turned → (old new : AskingPortValue P) → Type 0
@@ -116,4 +116,5 @@ turned_by c octets (Some entry) = Some (record { came = record c { from = entry.
 
 -- Between two turns, at this moment, or at the server's last where that is later.
 abbrev pub Attends : {P : Type 0} → (does : P → PortCall → P → Type 0) → ServerValue → (at : ℕ) → (octets : List ℕ) → Option Entry → (old new : AskingPortValue P) → Type 0
-Attends does server at octets entry old new = Goes does server.table (max at server.last) (turned_by old.last octets entry) (record old { at = max at server.last }) new
+Attends does server at octets entry old new =
+    Goes does server.table (max at server.last) (turned_by old.desk.last octets entry) (record old { desk = record old.desk { at = max at server.last } }) new

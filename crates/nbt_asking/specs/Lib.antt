@@ -1,2 +1,4 @@
+pub mod Inner
+pub mod Desk
 pub mod Port
 pub mod Attending

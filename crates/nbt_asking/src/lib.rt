@@ -7,12 +7,14 @@
 //! server's table, and changes none of it.
 #![tactic(auto)]
 
+mod desk;
 mod flags;
 mod ids;
 mod notes;
 mod port;
 mod sending;
 
+pub use desk::Desk;
 pub use flags::{FlagsPort, TellsFlags};
 pub use ids::{Ids, MemoryIds};
 pub use notes::Notes;

@@ -1,15 +1,13 @@
 //! The port of a server that asks, and what is done between two of its turns.
 
-ghost use Rattle.std.specs.Prelude.{◌≡◌, ◌⊎◌, ◌≤◌, ◌↔◌, max, [], Ok, Option, Some, None, IfNone, IfOk, IfSome, IsTrue, length};
+ghost use Rattle.std.specs.Prelude.{◌≡◌, ◌⊎◌, ◌≤◌, ◌↔◌, max, Option, Some};
 ghost use Rattle.nbt_lease.specs.Lease.{TableValue};
-ghost use Rattle.nbt_name.specs.Words.{word_at};
 ghost use Rattle.nbt_packet.specs.declared.message.Registration.{Registration as Claimed};
 ghost use Rattle.nbt_confirm.specs.Deciding.{Claims};
-ghost use Rattle.nbt_port.specs.PortCalls.{receiving, sending, CountsFailure};
-ghost use Rattle.nbt_waits.specs.Looking.{IsBack};
 ghost use Rattle.nbt_asking.specs.Attending.{Attends, Goes, Turned, turned_by};
-ghost use Rattle.nbt_asking.specs.Port.{AskingDoes, AskingPortValue, asking_port, any_under_way, quiet_by};
+ghost use Rattle.nbt_asking.specs.Desk.{new_desk};
 
+use crate::desk::{Desk, by_route};
 use crate::flags::TellsFlags;
 use crate::ids::Ids;
 use crate::notes::Notes;
@@ -18,13 +16,12 @@ use arrayvec::ArrayVec;
 use nbt_confirm::{Came, Machine, Silence, WAITS_MOST, held_back};
 use nbt_lease::{Moment, Table};
 use nbt_log::Entry;
-use nbt_name::{Addr, Kind, read_word};
+use nbt_name::Kind;
 use nbt_packet::flags::is_request;
 use nbt_packet::{Message, Registration, read, write};
 use nbt_port::{Cause, Device, OwnReplies, Port, Route};
 use nbt_server::{Outcome, Refusal, Server};
-use nbt_waits::{Aside, Asking, Reply, Settled, UNASKED, is_aside, write_claim};
-use std::alloc::{AllocError, Global};
+use nbt_waits::{Asking, Reply, Settled};
 use std::io::Write;
 use std::marker::Model;
 
@@ -39,15 +36,11 @@ const ACTIVE: u8 = 6;
 pub struct AskingPort<P, I> {
     /// The port beneath.
     pub beneath: P,
-    /// What waits, and the further addresses.
-    pub asking: Asking,
+    /// What such a server has beside it.
+    pub desk: Desk,
     /// What came of requests.
     pub notes: Notes,
     ids: I,
-    at: Moment,
-    aside: Aside,
-    came: Came,
-    quiet: Option<Addr>,
     out: ArrayVec<u8, 576>,
 }
 
@@ -56,42 +49,21 @@ impl<P, I> Model for AskingPort<P, I> {
 
     ghost Value = { AskingPortValue P };
 
-    ghost view = { λ p. record { port = p.beneath; asking = p.asking; at = p.at; kept = p.aside; last = p.came; quiet = p.quiet } };
+    ghost view = { λ p. record { port = p.beneath; desk = p.desk } };
 }
 
 impl<P, I> AskingPort<P, I> {
     /// A port over this one, with a source of ids, and the notes of what comes.
     pub fn new(beneath: P, ids: I, asking: Asking, notes: Notes) -> AskingPort<P, I>
-        ensures { result ≡ asking_port beneath asking }
+        ensures { result ≡ record { port = beneath; desk = new_desk asking } }
     {
         AskingPort {
             beneath,
-            asking,
+            desk: Desk::new(asking),
             notes,
             ids,
-            at: Moment::zero(),
-            aside: Aside::new(),
-            came: Came {
-                from: Addr { ip: 0, port: 0 },
-                local: None,
-                flags: 0,
-            },
-            quiet: None,
             out: ArrayVec::new(),
         }
-    }
-
-    /// What comes to the server without being received: what was looked at, or a request that it may grant.
-    fn take_back(&mut self, octets: &mut ArrayVec<u8, 2048>) -> Option<Route> {
-        let came = match self.aside.take_back(octets) {
-            Some(came) => came,
-            None => take_granted(&mut self.asking, octets)?,
-        };
-        if came.flags == UNASKED {
-            self.quiet = Some(came.from);
-        }
-        self.came = came;
-        Some(route_of(came))
     }
 
     /// What was done is noted.
@@ -105,28 +77,6 @@ impl<P, I> AskingPort<P, I> {
 }
 
 impl<P: Port + TellsFlags, I: Ids> AskingPort<P, I> {
-    /// Sets aside what was received, where that is to be looked at first, or hands it on.
-    fn pass(&mut self, from: Option<Route>, octets: &mut ArrayVec<u8, 2048>) -> Option<Route>
-        requires { length octets.old.items ≤ 2048 }
-        ensures { (before : AskingPortValue P) → ¬ IsBack before.kept → self.old ≡ record before { port = self.old.port } → P.does before.port (receiving (Ok from) octets.old.items) self.old.port
-            → AskingDoes P.does before (receiving (Ok result) octets.new.items) self.new }
-    {
-        let route = from?;
-        let came = Came {
-            from: route.peer,
-            local: route.local,
-            flags: self.beneath.flags(),
-        };
-        let is_asking = !self.asking.waits.pending().is_empty();
-        if is_aside(came, octets.as_slice(), is_asking) {
-            self.aside.put(came, octets.as_slice());
-            octets.clear();
-            return None;
-        }
-        self.came = came;
-        Some(route)
-    }
-
     /// What is done between two turns, at this moment, after a turn in which the server did this with these octets; `entry` is `None` where
     /// no datagram came to it. What was set aside is looked at, a refusal is held back whose request waits, and each query and reply leaves
     /// that is due. The server stays as it is. Where the request waits, `entry` is `None` afterwards, since nothing was refused yet. A send
@@ -136,8 +86,8 @@ impl<P: Port + TellsFlags, I: Ids> AskingPort<P, I> {
         ensures entry { (entry.new ≡ entry.old) ⊎ (entry.new ≡ None) }
     {
         let now = later(at, server.last());
-        self.at = now;
-        if !self.aside.is_there() && self.asking.is_idle() && !is_refused(entry) {
+        self.desk.at = now;
+        if !self.desk.aside.is_there() && self.desk.asking.is_idle() && !is_refused(entry) {
             return;
         }
         let table = server.table();
@@ -153,15 +103,19 @@ impl<P: Port + TellsFlags, I: Ids> AskingPort<P, I> {
         requires { table.now.last ≤ now }
         ensures { (turned : Option Turned) → Goes P.does table.now now turned self.old self.new }
     {
-        if !self.aside.is_there() {
+        if !self.desk.aside.is_there() {
             return;
         }
-        let came = self.aside.came();
+        let came = self.desk.aside.came();
         if is_request(came.flags) {
             return self.look_at_claim(table, now, came);
         }
-        let machine = self.asking.waits.hear(came.from, self.aside.octets());
-        self.aside.let_go();
+        let machine = self
+            .desk
+            .asking
+            .waits
+            .hear(came.from, self.desk.aside.octets());
+        self.desk.aside.let_go();
         if let Some(machine) = machine {
             self.serve(table, now, &machine);
         }
@@ -172,12 +126,16 @@ impl<P: Port + TellsFlags, I: Ids> AskingPort<P, I> {
         requires { table.now.last ≤ now }
         ensures { (turned : Option Turned) → Goes P.does table.now now turned self.old self.new }
     {
-        match self.asking.look(table, now, came, self.aside.octets()) {
+        match self
+            .desk
+            .asking
+            .look(table, now, came, self.desk.aside.octets())
+        {
             Some(settled) => {
-                self.aside.let_go();
+                self.desk.aside.let_go();
                 self.note(settled);
             }
-            None => self.aside.come_back(),
+            None => self.desk.aside.come_back(),
         }
     }
 
@@ -186,7 +144,7 @@ impl<P: Port + TellsFlags, I: Ids> AskingPort<P, I> {
         requires { table.now.last ≤ now }
     {
         for _ in 0..WAITS_MOST {
-            let Some(settled) = self.asking.serve(table, now, machine, &mut self.out) else {
+            let Some(settled) = self.desk.asking.serve(table, now, machine, &mut self.out) else {
                 return;
             };
             leave(&mut self.beneath, settled.leaving, self.out.as_slice());
@@ -200,6 +158,7 @@ impl<P: Port + TellsFlags, I: Ids> AskingPort<P, I> {
     {
         for _ in 0..WAITS_MOST {
             let Some(settled) = self
+                .desk
                 .asking
                 .serve_silence(table, now, silence, &mut self.out)
             else {
@@ -216,7 +175,7 @@ impl<P: Port + TellsFlags, I: Ids> AskingPort<P, I> {
         ensures { (turned : Option Turned) → Goes P.does table.now now turned self.old self.new }
     {
         for _ in 0..MOST {
-            let Some(silence) = self.asking.waits.give_up(now) else {
+            let Some(silence) = self.desk.asking.waits.give_up(now) else {
                 return;
             };
             self.serve_silence(table, now, &silence);
@@ -228,15 +187,15 @@ impl<P: Port + TellsFlags, I: Ids> AskingPort<P, I> {
         requires { table.now.last ≤ now }
         ensures { (turned : Option Turned) → Goes P.does table.now now turned self.old self.new }
     {
-        self.asking.further.sweep(now);
+        self.desk.asking.further.sweep(now);
         for _ in 0..MOST {
-            let Some(settled) = self.asking.wake(table, now) else {
+            let Some(settled) = self.desk.asking.wake(table, now) else {
                 break;
             };
             self.note(settled);
         }
         for _ in 0..MOST {
-            let Some(settled) = self.asking.follow_lease(table, now) else {
+            let Some(settled) = self.desk.asking.follow_lease(table, now) else {
                 break;
             };
             self.note(settled);
@@ -255,12 +214,12 @@ impl<P: Port + TellsFlags, I: Ids> AskingPort<P, I> {
         match &done.outcome {
             Outcome::Released(claim) => {
                 if let Kind::Unique = claim.kind {
-                    let settled = self.asking.pass_on(now, &claim.name, claim.addr);
+                    let settled = self.desk.asking.pass_on(now, &claim.name, claim.addr);
                     self.note(settled);
                 }
             }
             Outcome::Refused(_, Refusal::Active(_)) => {
-                let mut came = self.came;
+                let mut came = self.desk.last;
                 came.from = done.from;
                 if self.hold_back(table, now, came, octets, &done.outcome) {
                     *entry = None;
@@ -285,7 +244,10 @@ impl<P: Port + TellsFlags, I: Ids> AskingPort<P, I> {
             self.refuse(came, octets);
             return false;
         };
-        let settled = self.asking.hold_back(table, now, request, &mut self.out);
+        let settled = self
+            .desk
+            .asking
+            .hold_back(table, now, request, &mut self.out);
         leave(&mut self.beneath, settled.leaving, self.out.as_slice());
         self.note(settled);
         true
@@ -304,7 +266,7 @@ impl<P: Port + TellsFlags, I: Ids> AskingPort<P, I> {
             registration: Registration { ttl: 0, ..claim },
         };
         write(&reply, &mut self.out);
-        let _ = self.beneath.send(route_of(came), self.out.as_slice());
+        let _ = self.beneath.send(by_route(came), self.out.as_slice());
     }
 
     /// Sends what is due.
@@ -312,37 +274,22 @@ impl<P: Port + TellsFlags, I: Ids> AskingPort<P, I> {
         ensures { (table : TableValue) (turned : Option Turned) → Goes P.does table now turned self.old self.new }
     {
         for _ in 0..MOST {
-            let Some(way) = self.asking.waits.repeat(now, &mut self.out) else {
+            let Some(way) = self.desk.asking.waits.repeat(now, &mut self.out) else {
                 break;
             };
             send_query(&mut self.beneath, way, self.out.as_slice());
         }
         for _ in 0..MOST {
-            if !self.asking.wants_id() {
+            if !self.desk.asking.wants_id() {
                 return;
             }
             let Some(id) = self.ids.draw() else {
                 return;
             };
-            let Some(way) = self.asking.waits.begin(now, id, &mut self.out) else {
+            let Some(way) = self.desk.asking.waits.begin(now, id, &mut self.out) else {
                 return;
             };
             send_query(&mut self.beneath, way, self.out.as_slice());
-        }
-    }
-
-    /// Sends a reply of the server's: held back, with the further addresses, or as it is.
-    fn send_reply(&mut self, to: Route, octets: &[u8]) -> Result<(), Device>
-        ensures does { AskingDoes P.does self.old (sending to octets.now result) self.new }
-        ensures count { CountsFailure (P.failures self.old.port) (P.failures self.new.port) result }
-    {
-        match self
-            .asking
-            .reply(self.at, to.peer.ip, octets, &mut self.out)
-        {
-            Reply::HeldBack => Ok(()),
-            Reply::Changed => self.beneath.send(to, self.out.as_slice()),
-            Reply::AsItIs => self.beneath.send(to, octets),
         }
     }
 }
@@ -355,27 +302,29 @@ impl<P: Port + TellsFlags, I: Ids> Port for AskingPort<P, I> {
     ghost failures = { λ p. P.failures p.port };
 
     fn receive(&mut self, octets: &mut ArrayVec<u8, 2048>) -> Result<Option<Route>, Device> {
-        if let Some(route) = self.take_back(octets) {
+        if let Some(route) = self.desk.take_back(octets) {
             return Ok(Some(route));
         }
         let from = self.beneath.receive(octets)?;
-        Ok(self.pass(from, octets))
+        let flags = self.beneath.flags();
+        Ok(self.desk.pass(flags, from, octets))
     }
 
     fn receive_now(&mut self, octets: &mut ArrayVec<u8, 2048>) -> Result<Option<Route>, Device> {
-        if let Some(route) = self.take_back(octets) {
+        if let Some(route) = self.desk.take_back(octets) {
             return Ok(Some(route));
         }
         let from = self.beneath.receive_now(octets)?;
-        Ok(self.pass(from, octets))
+        let flags = self.beneath.flags();
+        Ok(self.desk.pass(flags, from, octets))
     }
 
     fn send(&mut self, to: Route, octets: &[u8]) -> Result<(), Device> {
-        if self.quiet == Some(to.peer) && is_unasked(octets) {
-            self.quiet = None;
-            return Ok(());
+        match self.desk.reply(to, octets, &mut self.out) {
+            Reply::HeldBack => Ok(()),
+            Reply::Changed => self.beneath.send(to, self.out.as_slice()),
+            Reply::AsItIs => self.beneath.send(to, octets),
         }
-        self.send_reply(to, octets)
     }
 
     fn failures(&self) -> u64 {
@@ -399,44 +348,12 @@ impl<P: Port + TellsFlags, I: Ids> Port for AskingPort<P, I> {
     }
 }
 
-/// The first request that the server may grant, as it comes to it: leaves its registration in `octets`, and returns how it came; `None` if
-/// there is none.
-fn take_granted(asking: &mut Asking, octets: &mut ArrayVec<u8, 2048>) -> Option<Came> {
-    let request = asking.granted.take()?;
-    let mut text = ArrayVec::new();
-    write_claim(&request, &mut text);
-    octets.clear();
-    let _ = octets.try_extend_from_slice(text.as_slice());
-    Some(Came {
-        from: request.from,
-        local: request.local,
-        flags: request.flags,
-    })
-}
-
-/// By which route a reply goes: that by which its request came.
-fn route_of(came: Came) -> Route
-    ensures { result ≡ record { peer = came.from; local = came.local } }
-{
-    Route {
-        peer: came.from,
-        local: came.local,
-    }
-}
-
 /// Whether the server refused something since another has it, or ended a lease: there is something to do then.
 fn is_refused(entry: &Option<Entry>) -> bool {
     match entry {
         Some(entry) => matches!(&entry.outcome, Outcome::Refused(_, Refusal::Active(_))),
         None => false,
     }
-}
-
-/// Whether a reply has the id of a request that nobody sent, 0.
-fn is_unasked(octets: &[u8]) -> bool
-    ensures { IsTrue result → (2 ≤ length octets.now) × (word_at octets.now 0 ≡ 0) }
-{
-    octets.len() >= 2 && read_word(octets, 0) == 0
 }
 
 /// The later of two times.
