@@ -25,7 +25,7 @@ pub use aside::Aside;
 pub use asking::Asking;
 pub use granted::Granted;
 pub use lapsing::UNASKED;
-pub use looking::is_aside;
+pub use looking::{claim_in, is_aside};
 pub use note::{Asked, Leaving, Note, Settled};
 pub use replies::write_claim;
 pub use sending::Reply;

@@ -147,8 +147,8 @@ fn additional_in(octets: &[u8]) -> Option<Record<'_>>
     }
 }
 
-/// The registration or refresh that the octets spell, if they spell one.
-fn claim_in(octets: &[u8]) -> Option<Registration<'_>>
+/// The registration or refresh that the octets spell, if they spell one (RFC 1002 sections 4.2.2 and 4.2.4).
+pub fn claim_in(octets: &[u8]) -> Option<Registration<'_>>
     ensures { (r : Claimed) → (result ≡ Some r) ↔ Claims octets.now r }
 {
     match read(octets)? {

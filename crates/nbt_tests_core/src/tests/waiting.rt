@@ -9,7 +9,7 @@ use nbt_name::{Addr, Name};
 use nbt_server::{Outcome, Server};
 use nbt_testing::{octets, started};
 use nbt_waits::{
-    Aside, AskTally, Asked, Asking, Reply, Settled, UNASKED, is_aside, laws, write_claim,
+    Aside, AskTally, Asked, Asking, Reply, Settled, UNASKED, claim_in, is_aside, laws, write_claim,
 };
 use std::process::Abort;
 
@@ -578,6 +578,8 @@ fn which_datagrams_are_set_aside(rt: HostRuntime) {
         let came = came(*ip, *flags);
         expect_eq_in(&rt, row, &is_aside(came, octets.as_slice(), false), alone);
         expect_eq_in(&rt, row, &is_aside(came, octets.as_slice(), true), asking);
+        let is_claim = claim_in(octets.as_slice()).is_some();
+        expect_eq_in(&rt, row, &is_claim, &(*flags < 0x8000 && *ip != SIX));
     }
 }
 
