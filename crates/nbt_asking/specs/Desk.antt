@@ -15,7 +15,7 @@ use Rattle.nbt_waits.specs.declared.sending.Reply.TheVariants as reply
 use Rattle.nbt_waits.specs.Asking.{came_of, claim_of}
 use Rattle.nbt_waits.specs.Lapsing.{unasked}
 use Rattle.nbt_waits.specs.Looking.{IsAside, IsBack, nothing, aside, back}
-use Rattle.nbt_waits.specs.Sending.{Left, leaves}
+use Rattle.nbt_waits.specs.Sending.{Left, leaves, leaves_with}
 use Rattle.nbt_asking.specs.declared.desk.Desk.{Desk}
 
 -- nothing has come yet
@@ -77,9 +77,12 @@ octets_by reply.Changed octets out = Some out
 abbrev pub with_left : Left → Desk → Desk
 with_left left old = record old { asking = record old.asking { further = left.further } }
 
--- What leaves of a reply, if something does: nothing where nobody sent the request; else by the message that it spells, or as it is.
+-- what leaves of it is by the message that the octets spell; they leave as they are where they spell none
+pub record LeavesAs (desk : Desk) (to : Route) (octets : List ℕ) (left : Left) : Type 0 where
+  pub by_message : (m : MessageValue) → Spells octets m → left ≡ leaves desk.at to.peer.ip octets desk.asking.further m
+  pub by_nothing : ((m : MessageValue) → ¬ Spells octets m) → left ≡ leaves_with octets desk.asking.further
+
+-- What leaves of a reply, if something does: nothing where nobody sent the request.
 pub data Replies (old : Desk) (to : Route) (octets : List ℕ) : Option (List ℕ) → Desk → Type 0 where
   is_quiet : IsQuiet old to octets → Replies old to octets None (record old { quiet = None })
-  by_message : (m : MessageValue) → ¬ IsQuiet old to octets → Spells octets m
-      → Replies old to octets (leaves old.at to.peer.ip octets old.asking.further m).octets (with_left (leaves old.at to.peer.ip octets old.asking.further m) old)
-  by_nothing : ¬ IsQuiet old to octets → ((m : MessageValue) → ¬ Spells octets m) → Replies old to octets (Some octets) old
+  leaves_as : (left : Left) → ¬ IsQuiet old to octets → LeavesAs old to octets left → Replies old to octets left.octets (with_left left old)

@@ -18,10 +18,10 @@ use nbt_lease::{Moment, Table};
 use nbt_log::Entry;
 use nbt_name::Kind;
 use nbt_packet::flags::is_request;
-use nbt_packet::{Message, Registration, read, write};
+use nbt_packet::{Message, Registration, write};
 use nbt_port::{Cause, Device, OwnReplies, Port, Route};
 use nbt_server::{Outcome, Refusal, Server};
-use nbt_waits::{Asking, Reply, Settled};
+use nbt_waits::{Asking, Reply, Settled, claim_in};
 use std::io::Write;
 use std::marker::Model;
 
@@ -205,7 +205,7 @@ impl<P: Port + TellsFlags, I: Ids> AskingPort<P, I> {
     /// Looks at what the server did in its turn.
     fn look_at_turn(&mut self, table: &Table, now: Moment, octets: &[u8], entry: &mut Option<Entry>)
         requires { table.now.last ≤ now }
-        ensures goes { Goes P.does table.now now (turned_by self.old.last octets.now entry.old) self.old self.new }
+        ensures goes { Goes P.does table.now now (turned_by self.old.desk.last octets.now entry.old) self.old self.new }
         ensures entry { (entry.new ≡ entry.old) ⊎ (entry.new ≡ None) }
     {
         let Some(done) = entry else {
@@ -361,15 +361,4 @@ fn later(one: Moment, other: Moment) -> Moment
     ensures { result ≡ max one other }
 {
     if one.get() < other.get() { other } else { one }
-}
-
-/// The registration or refresh that the octets spell, if they spell one.
-fn claim_in(octets: &[u8]) -> Option<Registration<'_>>
-    ensures { (r : Claimed) → (result ≡ Some r) ↔ Claims octets.now r }
-{
-    match read(octets)? {
-        Message::Registration(claim) => Some(claim),
-        Message::Refresh(claim) => Some(claim),
-        _ => None,
-    }
 }
