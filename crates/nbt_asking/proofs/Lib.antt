@@ -2,3 +2,5 @@
 
 -- what comes to the server, and what leaves
 pub mod Handing
+-- one thing after the other is done
+pub mod Going

@@ -1,7 +1,7 @@
 -- What is done between two turns of a server that asks, one thing after the other (our profile). The server's table is looked at, and stays
 -- as it is: so leases begin, are renewed and end by the server's rules alone, in its turns.
-use Rattle.std.specs.Prelude.{◌≡◌, ◌⊎◌, ℕ, max, List, [], ◌∷◌, map, Option, Some, None}
-use Rattle.std.specs.List.{find, flat_map}
+use Rattle.std.specs.Prelude.{◌≡◌, ◌⊎◌, ℕ, max, List, [], ◌∷◌, ◌++◌, map, Option, Some, None}
+use Rattle.std.specs.List.{find}
 use Rattle.nbt_name.specs.declared.addr.Kind.TheVariants.{Unique}
 use Rattle.nbt_packet.specs.declared.message.Registration.{Registration}
 use Rattle.nbt_packet.specs.Message.{registered}
@@ -45,15 +45,10 @@ datagrams sends = map datagram sends
 abbrev pub query : Way → (octets : List ℕ) → DatagramValue
 query way octets = datagram (by_way way octets)
 
--- one thing is done, and what leaves of it
-abbrev pub ByDone : (Asking → Done → Type 0) → Asking → List DatagramValue → Asking → Type 0
-ByDone does old sends new = (done : Done) × does old done × (sends ≡ datagrams done.sends) × (new ≡ done.asking)
-
--- such things, one after the other
-pub record AllDone (does : Asking → Done → Type 0) (old : Asking) (sends : List DatagramValue) (new : Asking) : Type 0 where
-  pub each : List (List DatagramValue)
-  pub steps : Chain (ByDone does) old each new
-  pub sends_are : sends ≡ flat_map (λ s. s) each
+-- such things, one after the other, and all that leaves of them
+pub data AllDone (does : Asking → Done → Type 0) (old : Asking) : List DatagramValue → Asking → Type 0 where
+  none : AllDone does old [] old
+  one_more : (sends : List DatagramValue) (mid : Asking) (done : Done) → AllDone does old sends mid → does mid done → AllDone does old (sends ++ datagrams done.sends) done.asking
 
 -- ---- what is done
 
@@ -100,14 +95,23 @@ module _ (table : TableValue) (now : ℕ) where
 abbrev pub TriesToSend : {P : Type 0} → (P → PortCall → P → Type 0) → P → DatagramValue → P → Type 0
 TriesToSend does old d new = does old (sent d.route d.octets) new ⊎ does old (send_failed d.route d.octets) new
 
+-- such things are done one after the other, and all that leaves of them is sent
+pub record AllSent {P : Type 0} (does : P → PortCall → P → Type 0) (serves : Asking → Done → Type 0) (old new : AskingPortValue P) : Type 0 where
+  pub sends : List DatagramValue
+  pub all : AllDone serves old.desk.asking sends new.desk.asking
+  pub port_did : Chain (TriesToSend does) old.port sends new.port
+  pub desk_is : new.desk ≡ record old.desk { asking = new.desk.asking }
+
 -- one thing is done, and all that leaves of it is sent
-pub record DoesOne {P : Type 0} (does : P → PortCall → P → Type 0) (table : TableValue) (now : ℕ) (turned : Option Turned) (old : AskingPortValue P) (sends : List DatagramValue) (new : AskingPortValue P) : Type 0 where
+pub record DoesOne {P : Type 0} (does : P → PortCall → P → Type 0) (table : TableValue) (now : ℕ) (turned : Option Turned) (old new : AskingPortValue P) : Type 0 where
+  pub sends : List DatagramValue
   pub did : Does table now turned old.desk sends new.desk
   pub port_did : Chain (TriesToSend does) old.port sends new.port
 
 -- some such things, one after the other
-abbrev pub Goes : {P : Type 0} → (does : P → PortCall → P → Type 0) → TableValue → (now : ℕ) → Option Turned → (old new : AskingPortValue P) → Type 0
-Goes does table now turned old new = (sends : List (List DatagramValue)) × Chain (DoesOne does table now turned) old sends new
+pub data Goes {P : Type 0} (does : P → PortCall → P → Type 0) (table : TableValue) (now : ℕ) (turned : Option Turned) (old : AskingPortValue P) : AskingPortValue P → Type 0 where
+  stays : Goes does table now turned old old
+  goes_on : (mid new : AskingPortValue P) → Goes does table now turned old mid → DoesOne does table now turned mid new → Goes does table now turned old new
 
 -- the turn of an entry, where a datagram came to the server
 abbrev pub turned_by : Came → (octets : List ℕ) → Option Entry → Option Turned

@@ -4,7 +4,8 @@ ghost use Rattle.std.specs.Prelude.{◌≡◌, ◌⊎◌, ◌≤◌, ◌↔◌, 
 ghost use Rattle.nbt_lease.specs.Lease.{TableValue};
 ghost use Rattle.nbt_packet.specs.declared.message.Registration.{Registration as Claimed};
 ghost use Rattle.nbt_confirm.specs.Deciding.{Claims};
-ghost use Rattle.nbt_asking.specs.Attending.{Attends, Goes, Turned, turned_by};
+ghost use Rattle.nbt_waits.specs.Settling.{Serves, ServesSilence};
+ghost use Rattle.nbt_asking.specs.Attending.{AllSent, Attends, Goes, Turned, turned_by};
 ghost use Rattle.nbt_asking.specs.Desk.{new_desk};
 
 use crate::desk::{Desk, by_route};
@@ -142,6 +143,7 @@ impl<P: Port + TellsFlags, I: Ids> AskingPort<P, I> {
     /// Serves the requests that waited for what a machine said.
     fn serve(&mut self, table: &Table, now: Moment, machine: &Machine)
         requires { table.now.last ≤ now }
+        ensures { AllSent P.does (Serves table.now now machine.now) self.old self.new }
     {
         for _ in 0..WAITS_MOST {
             let Some(settled) = self.desk.asking.serve(table, now, machine, &mut self.out) else {
@@ -155,6 +157,7 @@ impl<P: Port + TellsFlags, I: Ids> AskingPort<P, I> {
     /// Serves the requests that waited for one who didn't answer.
     fn serve_silence(&mut self, table: &Table, now: Moment, silence: &Silence)
         requires { table.now.last ≤ now }
+        ensures { AllSent P.does (ServesSilence table.now now silence.now) self.old self.new }
     {
         for _ in 0..WAITS_MOST {
             let Some(settled) = self
