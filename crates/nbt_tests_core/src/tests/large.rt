@@ -209,6 +209,26 @@ fn a_table_takes_room_for_all_its_rows(rt: HostRuntime) {
     expect(&rt, more < 1_048_576);
 }
 
+/// Nothing is kept of an address that has no lease any more: as many as come and go, a table is as large as before.
+#[test]
+fn addresses_that_come_and_go_take_no_room(rt: HostRuntime) {
+    let config = Config::large(1000, 60, 4_097).expect(&rt, "limits");
+    let mut table = Table::new(rt.alloc(), config);
+    let mut before = 0;
+    for addr in 0..30_000 {
+        if addr == 100 {
+            before = address_space(&rt);
+        }
+        let none = grant(&rt, &mut table, 0, 0, addr);
+        expect_eq_in(&rt, &addr, &none, &None);
+        let now = later(&rt, &table, 0);
+        let gone = table.release(now, &numbered(&rt, 0), addr);
+        expect_eq_in(&rt, &addr, &gone, &Released::Gone);
+    }
+    let room = address_space(&rt).saturating_sub(before);
+    expect(&rt, room < 262_144);
+}
+
 /// Has an address lease a number's name. Where memory is refused for that the same call is made once more.
 fn grow(rt: &impl Abort, table: &mut Table, number: u32) {
     let mut refused = grant(rt, table, 0, number, number);
