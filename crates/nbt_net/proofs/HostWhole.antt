@@ -21,14 +21,13 @@ use Rattle.nbt_host.specs.ReleaseLines.{releasing, EndsWell, EndsBadly, GivesBac
 use Rattle.nbt_host.specs.Releasing.{Releasing, Turns, Breaks, TurnsOn, Ended, is_over, is_spent, Broken, Leaves, giving_back, leaving}
 use Rattle.nbt_host.specs.Running.{RunsHost, RunFails, before, at_the_end, IsOverAt, Begins, HostsOver, HostOverFails, TellsHere, LooksHere}
 use Rattle.nbt_host.specs.Servers.{after_turn, noted_of, next_of, is_silent, follows}
-use Rattle.nbt_host.specs.Sleeping.{unwatched}
 use Rattle.nbt_host.specs.Staying as staying
 use Rattle.nbt_host.specs.Turning.{GoesThrough, TakesTurn, BreaksTurn, TurnsWell, TurnsBadly, TurnIsCut}
 use Rattle.nbt_net.specs.Hosts as hosts
 use Rattle.nbt_net.specs.Hosts.{HostLives}
 use Rattle.nbt_net.specs.Servers.{act_at}
 use Rattle.nbt_net.specs.Devices.{NoStore, reads, going_on, acts_at, ends as acts_end}
-use Rattle.nbt_net.specs.Hosting.{TellsOrLooks, host_machine, HostIsLived, HostsAreLived, FailedHostsAreLived}
+use Rattle.nbt_net.specs.Hosting.{TellsOrLooks, host_machine, HostIsLived, HostsAreLived, FailedHostsAreLived, HostsHereAreLived, FailedHostsHereAreLived}
 use Rattle.nbt_net.proofs.HostTurns.{Does, does_one, does_both, all_requested, requests_broken, all_polled, polls_broken, wakes_up}
 use Rattle.nbt_net.proofs.HostParts.{asked_quietly, broken_quietly, polled_quietly, polls_broken_quietly, none_came, HostPart, one_look, all_heard, reply_lost, slept_through}
 use Rattle.nbt_net.proofs.Ordering.{chain_split}
@@ -277,26 +276,28 @@ module _ {P K : Type 0} (does : P → PortCall → P → Type 0) (tells : K → 
       (ap (λ (x : Asked). x.server) s.asked_is, ap (λ (h : HostValue). h.node.addr) s.host_is),
     )
 
-    begun : {at : Addr} {goes : (until : Option ℕ) → Running P K → Running P K → Type 0} {old_port port : P} {watch : K} {old_text text : Option (List ℕ)} → Begins looks at a goes old_port watch old_text port text
+    begun : {at : Addr} {goes : (until : Option ℕ) → Running P K → Running P K → Type 0} {old_port port : P} {watch : K} {old_text text : Option (List ℕ)} → (b : Begins looks at a goes old_port watch old_text port text)
         → ((until : Option ℕ) (old new : Running P K) → goes until old new → Fixed old.host → Lived (Some old.host.host.node) old.port old.host.watch (Some new.host.host.node) new.port new.host.watch)
-        → (last : K) × (node : NodeValue) × HostIsLived does tells looks a old_port watch node port last
+        → HostIsLived does tells looks a old_port watch b.last.host.node port b.last.watch
     begun {old_port = old_port} {port} {watch} {text = text} b each =
         let first = started old_port watch b.first b.starts in
         let rest = each (until_of b.first.last.at a.time) (record { port = old_port; host = b.first; text = b.begun_text }) (record { port = port; host = b.last; text = text }) b.goes_on first.1 in
-        (b.last.watch, b.last.host.node, whole (HostLives a.config a.server a.bind) 0 does (TellsOrLooks tells looks) NoStore tt (joined first.0 rest))
+        whole (HostLives a.config a.server a.bind) 0 does (TellsOrLooks tells looks) NoStore tt (joined first.0 rest)
 
-    pub hosted : {at : Addr} {all : Bool} {old_port port : P} {watch : K} {old_text text : Option (List ℕ)} → HostsOver does tells looks at a all old_port watch old_text port text → (last : K) × (node : NodeValue) × HostIsLived does tells looks a old_port watch node port last
+    pub hosted : {at : Addr} {all : Bool} {old_port port : P} {watch : K} {old_text text : Option (List ℕ)} → (b : HostsOver does tells looks at a all old_port watch old_text port text) → HostIsLived does tells looks a old_port watch b.last.host.node port b.last.watch
     hosted {all = all} b = begun b (λ until old new runs fixed. ran until all old new runs fixed)
 
-    pub hosted_badly : {at : Addr} {fault : Fault} {old_port port : P} {watch : K} {old_text text : Option (List ℕ)} → HostOverFails does tells looks at a fault old_port watch old_text port text → (last : K) × (node : NodeValue) × HostIsLived does tells looks a old_port watch node port last
+    pub hosted_badly : {at : Addr} {fault : Fault} {old_port port : P} {watch : K} {old_text text : Option (List ℕ)} → (b : HostOverFails does tells looks at a fault old_port watch old_text port text) → HostIsLived does tells looks a old_port watch b.last.host.node port b.last.watch
     hosted_badly {fault = fault} b = begun b (λ until old new fails fixed. failed until fault old new fails fixed)
 
-pub hosts_are_lived : HostsAreLived
-hosts_are_lived a all old_text text alone (at, steady, day, salt, port, begins, over) =
-    let life = hosted UdpDoes TellsHere LooksHere a alone over in
-    (record { addr = a.bind; failures = 0 }, port, unwatched steady day salt, life.0, life.1, life.2)
+pub hosts_are_lived : {P K : Type 0} (does : P → PortCall → P → Type 0) (tells : K → ℕ → K → Type 0) (looks : K → Look → K → Type 0) → HostsAreLived does tells looks
+hosts_are_lived does tells looks at a all old_port port watch old_text text alone over = hosted does tells looks a alone over
 
-pub failed_hosts_are_lived : FailedHostsAreLived
-failed_hosts_are_lived a fault old_text text alone (at, steady, day, salt, port, begins, over) =
-    let life = hosted_badly UdpDoes TellsHere LooksHere a alone over in
-    (record { addr = a.bind; failures = 0 }, port, unwatched steady day salt, life.0, life.1, life.2)
+pub failed_hosts_are_lived : {P K : Type 0} (does : P → PortCall → P → Type 0) (tells : K → ℕ → K → Type 0) (looks : K → Look → K → Type 0) → FailedHostsAreLived does tells looks
+failed_hosts_are_lived does tells looks at a fault old_port port watch old_text text alone over = hosted_badly does tells looks a alone over
+
+pub hosts_here_are_lived : HostsHereAreLived
+hosts_here_are_lived a all old_text text alone (at, steady, day, salt, port, begins, over) = hosted UdpDoes TellsHere LooksHere a alone over
+
+pub failed_hosts_here_are_lived : FailedHostsHereAreLived
+failed_hosts_here_are_lived a fault old_text text alone (at, steady, day, salt, port, begins, over) = hosted_badly UdpDoes TellsHere LooksHere a alone over

@@ -28,7 +28,7 @@ ghost use Rattle.nbt_net.specs.Devices.{Call, Story, no_story, AreActs, IsCutAt}
 ghost use Rattle.nbt_net.specs.Fronts.{AreThrough};
 ghost use Rattle.nbt_net.specs.Getting.{NetworkGets, NewNetworkGets, RequestGets};
 ghost use Rattle.nbt_net.specs.Headers.{CrashLeavesTheHeader, DiskNextStart, StartFindsLeft};
-ghost use Rattle.nbt_net.specs.Hosting.{HostsAreLived, FailedHostsAreLived};
+ghost use Rattle.nbt_net.specs.Hosting.{HostsAreLived, FailedHostsAreLived, HostsHereAreLived, FailedHostsHereAreLived};
 ghost use Rattle.nbt_net.specs.Hosts.{HostLives};
 ghost use Rattle.nbt_net.specs.Lives.{Network, NetworkIsARun, NoTwoHold};
 ghost use Rattle.nbt_net.specs.Reaching.{HostsActIsARun, ServersActIsARun};
@@ -40,6 +40,7 @@ ghost use Rattle.nbt_net.specs.Wire.{Happening};
 ghost use Rattle.nbt_net.specs.BareWorking.{Bare, BareStarts, BareWorkIsLived, IsBareAtWork};
 ghost use Rattle.nbt_net.specs.Working.{HasWorked, HaveAnyPair, PutsFront, WorkIsLived};
 
+use nbt_host::Watch;
 use nbt_port::{Clock, Port};
 use nbt_store::{Disk, Store};
 
@@ -71,12 +72,15 @@ pub fn a_servers_turns_are_lived()
     nbt_serve::laws::servers_go_by_turns();
 }
 
-/// What the contract of `run_host` says of a host with one server is a life of it, from its first call to its last: until its time is over and its
-/// names are given back (`ok`), or until its port fails for good (`failed`). All that its port and its clocks did stands in one order. At each
+/// What the contract of [`nbt_host::host_over`] says of a host with one server is a life of it, from its first call to its last: until its time is over and its
+/// names are given back (`ok`), or until it ends early (`failed`). It leads from the port and the clocks that it was given to those that it had at last, and to the node that it had then. So it is of the port and the clocks of
+/// [`nbt_host::run_host`] (`here`, `here_failed`). All that its port and its clocks did stands in one order. At each
 /// reading of the clocks stand the acts at that time: what came right before it is handled at it, and what is sent leaves before the next one.
-pub fn a_whole_host_is_lived()
-    ensures ok { HostsAreLived }
-    ensures failed { FailedHostsAreLived }
+pub fn a_whole_host_is_lived<P: Port, K: Clock + Watch>()
+    ensures ok { HostsAreLived P.does K.tells K.looks }
+    ensures failed { FailedHostsAreLived P.does K.tells K.looks }
+    ensures here { HostsHereAreLived }
+    ensures here_failed { FailedHostsHereAreLived }
 {}
 
 /// Whatever a server does with its devices, one thing after another in any order, is a life of it, call by call: turns, also those in which its port
