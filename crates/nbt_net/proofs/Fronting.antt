@@ -10,7 +10,8 @@ use Rattle.nbt_packet.specs.Text.{text}
 use Rattle.nbt_port.specs.declared.port.Route.{Route}
 use Rattle.nbt_port.specs.PortCalls.{PortCall, nothing_came, came, receive_failed, sent, send_failed, Chain}
 use Rattle.nbt_port.proofs.Chains.{chain-append}
-use Rattle.nbt_front.specs.Deciding.{FrontValue, DeskValue, Decides, confirms as confirms_claim, refuses, refuses_overwrite, confirms_release, refuses_release, finds, refuses_past, turns_away}
+use Rattle.nbt_lease.specs.Config.{granted}
+use Rattle.nbt_front.specs.Deciding.{FrontValue, DeskValue, IsHolder, Decides, confirms as confirms_claim, refuses, refuses_overwrite, confirms_release, refuses_release, finds, refuses_past, turns_away}
 use Rattle.nbt_front.specs.FrontPort.{Fronted, FrontDoes, hands_on, answers, can_not_answer}
 use Rattle.nbt_front.specs.declared.deciding.Decision.{Decision}
 use Rattle.nbt_serve.specs.Samba.{as_registration, IsTaken}
@@ -59,7 +60,7 @@ other_opcode w n is five eight nine opcode which same positive = elim which [
 -- ---- what a front replies
 
 replies : (desk : DeskValue) (now ip : ℕ) (m : MessageValue) (decision : Decision) (reply : MessageValue) → Decides desk now ip m decision reply → (d : Datagram) → d.octets.items ≡ text reply → d.to.ip ≡ ip → IsFronts desk.front d
-replies desk now ip m _ _ (confirms_claim _ r fixed asks is may) d octets to = confirms r.name fixed is (subst (Contains fixed.addrs) (may.holds.own ∙ sym to) may.holds.listed)
+replies desk now ip m _ _ (confirms_claim _ r fixed asks is may) d octets to = confirms (record r { ttl = granted desk.front.longest r.ttl }) fixed octets is (subst (λ (to : ℕ). IsHolder to r.kind r.addr fixed) (sym to) may.holds)
 replies desk now ip m _ _ (refuses _ r fixed asks is may_not) d octets to = moves_none (λ moves. moves_not d.octets.items 0xAD86 (ap (λ (xs : List ℕ). word_at xs 2) octets) (omega arith) (negative 0xAD86 6 refl (λ e. absurd cc)) moves)
 replies desk now ip _ _ _ (refuses_overwrite r fixed is) d octets to = moves_none (λ moves. moves_not d.octets.items 0xAD86 (ap (λ (xs : List ℕ). word_at xs 2) octets) (omega arith) (negative 0xAD86 6 refl (λ e. absurd cc)) moves)
 replies desk now ip _ _ _ (confirms_release id name kind addr fixed is free holds) d octets to =

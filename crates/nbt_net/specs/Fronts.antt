@@ -2,10 +2,11 @@
 use Rattle.std.specs.Prelude.{◌≡◌, ◌⊎◌, ⊤, List, Some, Contains}
 use Rattle.std.specs.List.{AllByRecursion}
 use Rattle.nbt_name.specs.declared.addr.Addr.{Addr}
-use Rattle.nbt_name.specs.Wire.{NameValue}
 use Rattle.nbt_packet.specs.declared.message.Registration.{Registration}
+use Rattle.nbt_packet.specs.Message.{registered}
+use Rattle.nbt_packet.specs.Text.{text}
 use Rattle.nbt_port.specs.PortCalls.{PortCall, came, Chain}
-use Rattle.nbt_front.specs.Deciding.{FrontValue}
+use Rattle.nbt_front.specs.Deciding.{FrontValue, IsHolder}
 use Rattle.nbt_front.specs.FixedNames.{FixedValue, fixed_of}
 use Rattle.nbt_front.specs.FrontPort.{Fronted}
 use Rattle.nbt_serve.specs.Samba.{IsTaken}
@@ -21,10 +22,11 @@ abbrev pub MayComeBeneath : WorldValue → (to : Addr) → PortCall → Type 0
 MayComeBeneath wire to (came from octets) = Comes wire from.peer to octets × (IsOfEnd wire.ends from.peer.ip → (r : Registration) → ¬ IsTaken octets r)
 MayComeBeneath wire to call = ⊤
 
--- What a front sends in place of the server: it moves no name; or it confirms a fixed name to one of the name's own addresses.
+-- What a front sends in place of the server: it moves no name; or it confirms a fixed name to the address that it goes to, which is one of the
+-- name's own, as the name's kind.
 pub data IsFronts (front : FrontValue) (d : Datagram) : Type 0 where
   moves_none : ¬ SpellMove d.octets.items → IsFronts front d
-  confirms : (name : NameValue) (fixed : FixedValue) → fixed_of front.fixed name ≡ Some fixed → Contains fixed.addrs d.to.ip → IsFronts front d
+  confirms : (r : Registration) (fixed : FixedValue) → d.octets.items ≡ text (registered 0 r) → fixed_of front.fixed r.name ≡ Some fixed → IsHolder d.to.ip r.kind r.addr fixed → IsFronts front d
 
 -- The calls of the server's port are such calls of the port beneath. What may come there may come to the server; and what is sent there is
 -- sent by the server, or is the front's. The front stays.
