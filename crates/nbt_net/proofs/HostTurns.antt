@@ -11,10 +11,10 @@ use Rattle.nbt_node.specs.Calls.{Polls, polls_name, polls_lookup, polls_nothing,
 use Rattle.nbt_node.specs.Moves.{NameEvent, NameMoves, Told}
 use Rattle.nbt_node.specs.Datagrams.{NodeTakesOctets, spelled, unspelled, NodeTakes, NodeHears, from_server, from_stranger, Lists, lists_names, lists_nothing, Ends, is_answered, is_unanswered, Idles, idles}
 use Rattle.nbt_packet.specs.Message.{MessageValue, status_request, registered, released, found, not_found, status, wait}
+use Rattle.nbt_port.specs.declared.port.Route.{Route}
 use Rattle.nbt_port.specs.PortCalls.{PortCall, receive_failed, receiving, Chain}
 use Rattle.nbt_port.proofs.Chains.{chain_one, chain-append}
 use Rattle.nbt_client.specs.Turning.{PollsTo, polls_to, EndsPolls, has_nothing, polls_back, PollsAll, BreaksPolls, at_send}
-use Rattle.nbt_serve.specs.Runs.{LeavesOut, nothing, not_this, this}
 use Rattle.nbt_host.specs.declared.goal.Goal.{Goal}
 use Rattle.nbt_host.specs.declared.news.Notice.{Notice}
 use Rattle.nbt_host.specs.declared.watching.Look.{Look}
@@ -24,7 +24,7 @@ use Rattle.nbt_net.specs.Wire.{Act}
 use Rattle.nbt_net.specs.Servers.{act_at}
 use Rattle.nbt_net.specs.Hosts as hosts
 use Rattle.nbt_net.specs.Hosts.{HostActs, HostLives}
-use Rattle.nbt_net.specs.Turns.{calls_in, AreAtLooks, LivesThrough, HostTurnsAreLived, BrokenTurnsAreLived, HostsLiveOn}
+use Rattle.nbt_net.specs.Turns.{calls_in, AreAtLooks, IsReceive, LeavesReceivesOut, nothing, not_this, this, LivesThrough, HostTurnsAreLived, BrokenTurnsAreLived, HostsLiveOn}
 
 -- ---- each act keeps the node's address
 
@@ -189,15 +189,16 @@ wakes_up t look host slots = elim (cases_Bool look.slept) [
 
 -- ---- all of the second list, or what is left of it
 
-all_left : {A : Type 0} (xs : List A) → LeavesOut xs xs
+all_left : (xs : List PortCall) → LeavesReceivesOut xs xs
 all_left [] = nothing
 all_left (x ∷ xs) = not_this x xs xs (all_left xs)
 
-none_left : {A : Type 0} (ys : List A) → LeavesOut [] ys
-none_left [] = nothing
-none_left (y ∷ ys) = this y [] ys (none_left ys)
+-- a receive alone
+received : (found : Option Route) (octets : List ℕ) → IsReceive (receiving (Ok found) octets)
+received None octets = tt
+received (Some from) octets = tt
 
-front_left : {A : Type 0} (xs : List A) {ys zs : List A} → LeavesOut ys zs → LeavesOut (xs ++ ys) (xs ++ zs)
+front_left : (xs : List PortCall) {ys zs : List PortCall} → LeavesReceivesOut ys zs → LeavesReceivesOut (xs ++ ys) (xs ++ zs)
 front_left [] left = left
 front_left (x ∷ xs) left = not_this x _ _ (front_left xs left)
 
@@ -216,17 +217,17 @@ module _ (t : Terms) (old : HostValue) (slots : t.slots ≡ slots_most) where
     acts = d.acts;
     lives = d.lives;
     at_looks = (d.acts, [], sym (append-nil d.acts), d.at_now, refl);
-    calls_are = subst (λ (cs : List PortCall). LeavesOut (calls_in d.acts) cs) d.calls_are (all_left (calls_in d.acts));
+    calls_are = subst (λ (cs : List PortCall). LeavesReceivesOut (calls_in d.acts) cs) d.calls_are (all_left (calls_in d.acts));
     addr_is = d.addr_is;
   }
 
   -- and at two
-  two_looks : (first second : Look) (mid : NodeValue) (new : HostValue) {early late all : List PortCall} → Here first.at old.node early mid → Here second.at mid late new.node → LeavesOut (early ++ late) all → LivesThrough t old all (first ∷ second ∷ []) new
+  two_looks : (first second : Look) (mid : NodeValue) (new : HostValue) {early late all : List PortCall} → Here first.at old.node early mid → Here second.at mid late new.node → LeavesReceivesOut (early ++ late) all → LivesThrough t old all (first ∷ second ∷ []) new
   two_looks first second mid new {early} {late} {all} a b left = record {
     acts = a.acts ++ b.acts;
     lives = chain-append (HostLives t.config t.server old.node.addr) (Some old.node) (Some mid) (Some new.node) a.acts b.acts a.lives b.lives;
     at_looks = (a.acts, b.acts, refl, a.at_now, (b.acts, [], sym (append-nil b.acts), b.at_now, refl));
-    calls_are = subst (λ (cs : List PortCall). LeavesOut cs all) (sym (calls-append a.acts b.acts ∙ both a.calls_are b.calls_are)) left;
+    calls_are = subst (λ (cs : List PortCall). LeavesReceivesOut cs all) (sym (calls-append a.acts b.acts ∙ both a.calls_are b.calls_are)) left;
     addr_is = b.addr_is ∙ a.addr_is;
   }
 
@@ -235,7 +236,7 @@ module _ (t : Terms) (old : HostValue) (slots : t.slots ≡ slots_most) where
       → LivesThrough t old (early ++ hearing) (first ∷ look ∷ []) new
   heard first look begun polled early _ _ a (sleeps taken octets slept) =
       two_looks first look polled _ a (subst (λ (at : Addr). Does t.config t.server at look.at polled [] (woken t look (record begun { node = polled })).node) a.addr_is (wakes_up t look (record begun { node = polled }) slots))
-      (front_left early (none_left (receiving (Ok taken) octets ∷ [])))
+      (front_left early (this (receiving (Ok taken) octets) [] [] (received taken octets) nothing))
   heard first look begun polled early hearing _ a (wakes _ notice new awake h) = two_looks first look polled _ a (does_one hearing (hosts.hears hearing notice new h)) (all_left (early ++ hearing))
 
   -- calls in two parts, with their looks
@@ -274,10 +275,10 @@ looks-append [] later acts more none at = subst (λ (xs : List Act). AreAtLooks 
 looks-append (look ∷ looks) later acts more (here, rest, acts_are, now, at_rest) at =
     (here, rest ++ more, ap (λ (xs : List Act). xs ++ more) acts_are ∙ append_assoc here rest more, now, looks-append looks later rest more at_rest at)
 
-left-append : {A : Type 0} {xs ys zs ws : List A} → LeavesOut xs ys → LeavesOut zs ws → LeavesOut (xs ++ zs) (ys ++ ws)
+left-append : {xs ys zs ws : List PortCall} → LeavesReceivesOut xs ys → LeavesReceivesOut zs ws → LeavesReceivesOut (xs ++ zs) (ys ++ ws)
 left-append nothing back = back
 left-append {zs = zs} {ws} (not_this x xs ys front) back = not_this x (xs ++ zs) (ys ++ ws) (left-append front back)
-left-append {zs = zs} {ws} (this y xs ys front) back = this y (xs ++ zs) (ys ++ ws) (left-append front back)
+left-append {zs = zs} {ws} (this y xs ys receives front) back = this y (xs ++ zs) (ys ++ ws) receives (left-append front back)
 
 pub hosts_live_on : HostsLiveOn
 hosts_live_on t old mid new calls more looks later a b = record {
@@ -285,6 +286,6 @@ hosts_live_on t old mid new calls more looks later a b = record {
   lives = chain-append (HostLives t.config t.server old.node.addr) (Some old.node) (Some mid.node) (Some new.node) a.acts b.acts a.lives
       (subst (λ (at : Addr). Chain (HostLives t.config t.server at) (Some mid.node) b.acts (Some new.node)) a.addr_is b.lives);
   at_looks = looks-append looks later a.acts b.acts a.at_looks b.at_looks;
-  calls_are = subst (λ (cs : List PortCall). LeavesOut cs (calls ++ more)) (sym (calls-append a.acts b.acts)) (left-append a.calls_are b.calls_are);
+  calls_are = subst (λ (cs : List PortCall). LeavesReceivesOut cs (calls ++ more)) (sym (calls-append a.acts b.acts)) (left-append a.calls_are b.calls_are);
   addr_is = b.addr_is ∙ a.addr_is;
 }

@@ -1,16 +1,16 @@
 -- What turns of the programs are in the lives of their ends (our profile).
-use Rattle.std.specs.Prelude.{◌≡◌, ℕ, List, [], ◌∷◌, ◌++◌, map, Some, Contains}
+use Rattle.std.specs.Prelude.{◌≡◌, ⊤, ℕ, List, [], ◌∷◌, ◌++◌, map, Some, Contains}
 use Rattle.std.specs.List.{flat_map, AllByRecursion}
 use Rattle.nbt_lease.specs.Config.{ConfigValue}
 use Rattle.nbt_server.specs.Serving.{ServerValue}
 use Rattle.nbt_node.specs.Node.{slots_most}
 use Rattle.nbt_port.specs.Memory.{DatagramValue}
-use Rattle.nbt_port.specs.PortCalls.{PortCall, sent, Chain}
+use Rattle.nbt_port.specs.PortCalls.{PortCall, sent, send_failed, Chain}
 use Rattle.nbt_store.specs.Calls.{Kept, MayLeaveAfter}
 use Rattle.nbt_store.specs.declared.change.Change.{Change}
 use Rattle.nbt_serve.specs.Serving.{Turn, acts_in as calls_in_turn, moments_in, Turns}
 use Rattle.nbt_serve.specs.Devices.{DeviceCall}
-use Rattle.nbt_serve.specs.Runs.{Begins, Held, IsEarlier, LeavesOut, Runs, Seen, calls_in as all_calls_in, gone_in, last_left, stored_in, turns_in}
+use Rattle.nbt_serve.specs.Runs.{Begins, Held, IsEarlier, Runs, Seen, calls_in as all_calls_in, gone_in, last_left, stored_in, turns_in}
 use Rattle.nbt_host.specs.declared.watching.Look.{Look}
 use Rattle.nbt_host.specs.Hosting.{HostBreaks, HostTurn, HostValue, Terms}
 use Rattle.nbt_net.specs.Wire.{Act}
@@ -28,13 +28,25 @@ abbrev pub AreAtLooks : List Look → List Act → Type 0
 AreAtLooks [] acts = acts ≡ []
 AreAtLooks (look ∷ looks) acts = (here : List Act) × (later : List Act) × (acts ≡ here ++ later) × AllByRecursion (λ act. act.now ≡ look.at) here × AreAtLooks looks later
 
--- A host's turn is these acts of its life, at the looks at its clocks. They have all calls of its port, but for a receive of which nothing
--- is made since the machine slept.
+-- it is a receive, whatever came of it
+abbrev pub IsReceive : PortCall → Type 0
+IsReceive (sent to octets) = ⊥
+IsReceive (send_failed to octets) = ⊥
+IsReceive call = ⊤
+
+-- The first calls are the second but for some receives.
+pub data LeavesReceivesOut : List PortCall → List PortCall → Type 0 where
+  nothing : LeavesReceivesOut [] []
+  not_this : (call : PortCall) (xs ys : List PortCall) → LeavesReceivesOut xs ys → LeavesReceivesOut (call ∷ xs) (call ∷ ys)
+  this : (call : PortCall) (xs ys : List PortCall) → IsReceive call → LeavesReceivesOut xs ys → LeavesReceivesOut xs (call ∷ ys)
+
+-- A host's turn is these acts of its life, at the looks at its clocks. They have all calls of its port, but for receives: where the machine slept
+-- nothing is made of one.
 pub record LivesThrough (t : Terms) (old : HostValue) (calls : List PortCall) (looks : List Look) (new : HostValue) : Type 0 where
   pub acts : List Act
   pub lives : Chain (HostLives t.config t.server old.node.addr) (Some old.node) acts (Some new.node)
   pub at_looks : AreAtLooks looks acts
-  pub calls_are : LeavesOut (calls_in acts) calls
+  pub calls_are : LeavesReceivesOut (calls_in acts) calls
   pub addr_is : new.node.addr ≡ old.node.addr
 
 -- so is each turn, and each one in which the device fails
