@@ -103,4 +103,4 @@ module _ (laws : AllLaws) (law : WrittenIsRead) (config : ConfigValue) (server :
   }
 
   pub gets_anew : (before : List Happening) × (wire : WorldValue) × IsTrue wire.kept × Gets config (server ∷ others) before wire index at r
-  gets_anew = (beginning, later, refl, gets laws law r (record { are_addrs = are; net = begun; host_at = here; host_is = host_here (λ (_ : ℕ). None) index node; can = can_get; numbers = numbers; addr_is = own.0; id_is = refl }))
+  gets_anew = (beginning, later, refl, (gets laws law r (record { are_addrs = are; net = begun; host_at = here; host_is = host_here (λ (_ : ℕ). None) index node; can = can_get; numbers = numbers; addr_is = own.0; id_is = refl })).gets)

@@ -57,6 +57,9 @@ with_host hosts index node i = if nat_eq i index then Some node else hosts i
 pub host_here : (hosts : ℕ → Option NodeValue) (index : ℕ) (node : NodeValue) → with_host hosts index node index ≡ Some node
 host_here hosts index node = ap (λ b. if b then Some node else hosts index) (eq-eqb index index refl)
 
+pub host_there : (hosts : ℕ → Option NodeValue) (index : ℕ) (node : NodeValue) (i : ℕ) → i ≢ index → with_host hosts index node i ≡ hosts i
+host_there hosts index node i ne = ap (λ b. if b then Some node else hosts i) (ne_eqb i index ne)
+
 -- What goes on is acts of the server and of one host.
 pub record GoesOn (config : ConfigValue) (wire : WorldValue) (server : ServerEnd) (host : Option NodeValue) (index : ℕ) (at : Addr) (more : List Happening) (last : WorldValue) (after : ServerEnd) (node : NodeValue) : Type 0 where
   pub wires : List WorldValue
@@ -75,7 +78,7 @@ module _ {config : ConfigValue} {addrs : List Addr} {before : List Happening} {w
       (subst (λ (s : Addr). Chain (HostLives config s to) (hosts index) (acts_of (suc index) more) (Some node)) (sym same)
       (subst (λ (a : Addr). Chain (HostLives config wire.ends.server_addr a) (hosts index) (acts_of (suc index) more) (Some node)) to_is g.host_lives)))
   hosts_on i to (inr ne) there =
-      subst (λ (all : List Act). Chain (HostLives config net.first.ends.server_addr to) (hosts i) all (with_host hosts index node i)) (sym (g.others i ne)) (ap (λ b. if b then Some node else hosts i) (ne_eqb i index ne))
+      subst (λ (all : List Act). Chain (HostLives config net.first.ends.server_addr to) (hosts i) all (with_host hosts index node i)) (sym (g.others i ne)) (host_there hosts index node i ne)
 
   pub network_on : Network config addrs (before ++ more) last after (with_host hosts index node)
   network_on = let run = run_on net.goes g.goes in record {
@@ -87,6 +90,10 @@ module _ {config : ConfigValue} {addrs : List Addr} {before : List Happening} {w
     hosts_live = λ i to there. subst (λ (all : List Act). Chain (HostLives config net.first.ends.server_addr to) None all (with_host hosts index node i)) (sym (acts_of-append (suc i) before more))
         (chain-append (HostLives config net.first.ends.server_addr to) None (hosts i) (with_host hosts index node i) (acts_of (suc i) before) (acts_of (suc i) more) (net.hosts_live i to there) (hosts_on i to (cases_eq i index) there));
   }
+
+  pub same_first : network_on.first ≡ net.first
+  unfolding network_on
+  same_first = refl
 
 -- ---- the three acts
 

@@ -17,7 +17,7 @@ use Rattle.nbt_node.specs.declared.state.Slot.{Slot}
 use Rattle.nbt_node.specs.Node.{NodeValue, has_room, slot_of, settled_slot, state_at}
 use Rattle.nbt_node.specs.Settling.{settled}
 use Rattle.nbt_node.specs.Calls.{ask_refusal}
-use Rattle.nbt_port.specs.PortCalls.{came, route_to}
+use Rattle.nbt_port.specs.PortCalls.{came, route_to, Chain}
 use Rattle.nbt_serve.specs.Serving.{is_taken, Turns}
 use Rattle.nbt_host.specs.declared.goal.Goal.{Goal}
 use Rattle.nbt_host.specs.Hosting.{is_wanted, Requests, HostHears}
@@ -27,14 +27,15 @@ use Rattle.nbt_world.specs.World.{WorldValue, addr_of}
 use Rattle.nbt_world.specs.Safety.{held_by}
 use Rattle.nbt_world.specs.Inner.Kept.{IsNodeOf, IsServerOf}
 use Rattle.nbt_world.proofs.Keeping.{addr_with, server_addr_with, node_with_here, latest-up}
-use Rattle.nbt_net.specs.Wire.{Happening, WireStep, time_passes, end_acts, WireRun, ends, goes_on}
+use Rattle.nbt_net.specs.Wire.{Happening, WireStep, time_passes, end_acts, WireRun, ends, goes_on, acts_of}
+use Rattle.nbt_net.specs.Hosts.{HostLives}
 use Rattle.nbt_net.specs.Servers.{up, up_of}
 use Rattle.nbt_net.specs.Reaching.{with_end}
-use Rattle.nbt_net.specs.Getting.{Gets, HostCanGet, IsGot, wanted_by, world_with}
+use Rattle.nbt_net.specs.Getting.{Gets, GoesOnSo, getting, HostCanGet, IsGot, wanted_by, world_with}
 use Rattle.nbt_net.proofs.Lives.{AllLaws, Led, led, filled}
 use Rattle.nbt_net.proofs.Granting.{WrittenIsRead}
 use Rattle.nbt_net.proofs.Asking.{wish}
-use Rattle.nbt_net.proofs.Getting.{with_host, host_here, network_on, Ready, three, leased, got, three_acts, then_holds}
+use Rattle.nbt_net.proofs.Getting.{with_host, host_here, host_there, network_on, same_first, Ready, three, leased, got, three_acts, then_holds}
 use Rattle.nbt_net.proofs.Surely.{OneAnswers, asks_so, replies_so, hears_so}
 
 -- ---- a wire has the same ends always
@@ -120,18 +121,34 @@ module _ (laws : AllLaws) (law : WrittenIsRead) {config : ConfigValue} {addrs : 
       client_at : addr_of (world_with wire server index node).ends (suc index) ≡ Some at
       client_at = addr_with (with_end wire.ends (up server)) index (Some node) (suc index) ∙ server_addr_with wire.ends (Some server) None (suc index) ∙ h.host_at
 
+  server_stays : h.net.first.ends.server_addr ≡ wire.ends.server_addr
+  server_stays = ap (λ (e : Ends). e.server_addr) (sym (ends_stay h.net.goes))
+
+  host_stays : addr_of h.net.first.ends (suc index) ≡ Some at
+  host_stays = ap (λ (e : Ends). addr_of e (suc index)) (sym (ends_stay h.net.goes)) ∙ h.host_at
+
   gets_wish : Gets config addrs before wire index at (wish node r.name r.kind r.ttl)
   gets_wish = record {
     now = three law wire index at ready;
     server = up (leased law wire index at ready);
     hosts = with_host hosts index (got law wire index at ready);
-    net = network_on h.net (ap (λ (e : Ends). e.server_addr) (sym (ends_stay h.net.goes))) (ap (λ (e : Ends). addr_of e (suc index)) (sym (ends_stay h.net.goes)) ∙ h.host_at) (three_acts law wire index at ready h.host_is);
+    net = network_on h.net server_stays host_stays (three_acts law wire index at ready h.host_is);
     stays = refl;
     holds_it = ap (λ (x : Option NodeValue). held_by x r.name (reading wire.now (suc index))) (host_here hosts index (got law wire index at ready)) ∙ then_holds law wire index at ready;
   }
 
-  pub gets : Gets config addrs before wire index at r
-  gets = subst (λ (x : Registration). Gets config addrs before wire index at x) wish_is gets_wish
+  goes_on_so : GoesOnSo h.net index at node (wish node r.name r.kind r.ttl)
+  unfolding gets_wish
+  goes_on_so = let on = three_acts law wire index at ready refl in record {
+    gets = gets_wish;
+    first_stays = same_first h.net server_stays host_stays (three_acts law wire index at ready h.host_is);
+    server_goes_on = on.server_lives;
+    host_goes_on = subst (λ (x : Option NodeValue). Chain (HostLives config wire.ends.server_addr at) (Some node) (acts_of (suc index) (getting wire index at (wish node r.name r.kind r.ttl) (granted config.longest r.ttl))) x) (sym (host_here hosts index (got law wire index at ready))) on.host_lives;
+    others_stay = host_there hosts index (got law wire index at ready);
+  }
+
+  pub gets : GoesOnSo h.net index at node r
+  gets = subst (λ (x : Registration). GoesOnSo h.net index at node x) wish_is goes_on_so
 
   -- ---- and nothing else comes of its request
 

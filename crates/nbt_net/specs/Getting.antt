@@ -1,5 +1,5 @@
 -- That a host of a network gets a free name (our profile).
-use Rattle.std.specs.Prelude.{◌≡◌, ℕ, suc, List, [], ◌∷◌, ◌++◌, true, slice_get, Option, Some, IsTrue}
+use Rattle.std.specs.Prelude.{◌≡◌, ◌≢◌, ℕ, suc, List, [], ◌∷◌, ◌++◌, true, slice_get, Option, Some, IsTrue}
 use Rattle.nbt_name.specs.declared.addr.Addr.{Addr}
 use Rattle.nbt_packet.specs.declared.message.Registration.{Registration}
 use Rattle.nbt_packet.specs.Message.{MessageValue, registration, registered, IsRegistration}
@@ -7,7 +7,7 @@ use Rattle.nbt_packet.specs.Text.{text}
 use Rattle.nbt_lease.specs.Config.{ConfigValue, IsConfig, granted}
 use Rattle.nbt_server.specs.Serving.{ServerValue, IsOwn}
 use Rattle.nbt_node.specs.Node.{NodeValue, holds}
-use Rattle.nbt_port.specs.PortCalls.{PortCall, came, sent, route_to}
+use Rattle.nbt_port.specs.PortCalls.{PortCall, came, sent, route_to, Chain}
 use Rattle.nbt_client.specs.declared.turning.Want.{Want}
 use Rattle.nbt_serve.specs.Serving.{is_taken, Turns}
 use Rattle.nbt_host.specs.declared.goal.Goal.{Goal}
@@ -16,8 +16,9 @@ use Rattle.nbt_host.specs.Hosting.{is_wanted, Requests, HostHears}
 use Rattle.nbt_world.specs.Drift.{reading}
 use Rattle.nbt_world.specs.World.{WorldValue, AreAddrs, addr_of, with_node}
 use Rattle.nbt_world.specs.Getting.{CanGet}
-use Rattle.nbt_net.specs.Wire.{Happening, acts}
-use Rattle.nbt_net.specs.Servers.{ServerEnd, up}
+use Rattle.nbt_net.specs.Wire.{Happening, acts, acts_of}
+use Rattle.nbt_net.specs.Hosts.{HostLives}
+use Rattle.nbt_net.specs.Servers.{ServerEnd, up, ServerLives}
 use Rattle.nbt_net.specs.Lives.{Network, holds_now}
 use Rattle.nbt_net.specs.Reaching.{with_end}
 
@@ -61,10 +62,18 @@ pub record HostCanGet (config : ConfigValue) (addrs : List Addr) (before : List 
   pub addr_is : r.addr ≡ at.ip
   pub id_is : r.id ≡ node.next_id
 
--- Such a network may go on so that the host gets the name.
+-- This network goes on so that the host gets the name. Its first wire stays. The server and the host go on from what they were. Each other host is as it was.
+pub record GoesOnSo {config : ConfigValue} {addrs : List Addr} {before : List Happening} {wire : WorldValue} {server : ServerValue} {hosts : ℕ → Option NodeValue} (net : Network config addrs before wire (up server) hosts) (index : ℕ) (at : Addr) (node : NodeValue) (r : Registration) : Type 0 where
+  pub gets : Gets config addrs before wire index at r
+  pub first_stays : gets.net.first ≡ net.first
+  pub server_goes_on : Chain (ServerLives config) (up server) (acts_of 0 (getting wire index at r (granted config.longest r.ttl))) gets.server
+  pub host_goes_on : Chain (HostLives config wire.ends.server_addr at) (Some node) (acts_of (suc index) (getting wire index at r (granted config.longest r.ttl))) (gets.hosts index)
+  pub others_stay : (other : ℕ) → other ≢ index → gets.hosts other ≡ hosts other
+
+-- So does each such network.
 abbrev pub NetworkGets : Type 0
 NetworkGets = (config : ConfigValue) (addrs : List Addr) (before : List Happening) (wire : WorldValue) (server : ServerValue) (hosts : ℕ → Option NodeValue) (index : ℕ) (at : Addr) (node : NodeValue) (r : Registration)
-    → HostCanGet config addrs before wire server hosts index at node r → Gets config addrs before wire index at r
+    → (can : HostCanGet config addrs before wire server hosts index at node r) → GoesOnSo can.net index at node r
 
 -- what a host wants that sends this registration
 abbrev pub wanted_by : Registration → Want
