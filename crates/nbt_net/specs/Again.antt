@@ -18,15 +18,15 @@ use Rattle.nbt_net.specs.Starts.{FindsLeft, HasNotGoneBack, ResumesLater}
 use Rattle.nbt_net.specs.Turns.{acts_before, IsCutShort}
 use Rattle.nbt_net.specs.Restarts.{later_act}
 
--- what a server that begins wrote: its live leases, at the last time of its header
+-- a file of its live leases alone, at the last time of its header, which it is to write
 abbrev pub kept_of : Begun → Kept
 kept_of b = kept_rows b.header.last (live_rows b.server)
 
--- the server, with its limit of clients, as it begins: no reply waits
+-- the server as it begins, with this limit of clients: no reply waits
 abbrev pub held_of : (rows : Option ℕ) → Begun → Held
 held_of rows b = record { server = limited rows b.server; waiting = none_waits b.header.last }
 
--- The header that it wrote is its own: its limits, its start, and what its clock read.
+-- The header that it is to write is its own: it has its limits, its start, and what its clock read.
 pub record HasOwnHeader (b : Begun) : Type 0 where
   pub life : b.header.life ≡ b.server.table.config.life
   pub longest : b.header.longest ≡ b.server.table.config.longest
@@ -34,7 +34,8 @@ pub record HasOwnHeader (b : Begun) : Type 0 where
   pub start : b.header.start ≡ b.server.start
   pub last : b.header.last ≡ b.reads
 
--- However a server begins, with whatever it finds, a run begins with what it wrote.
+-- However a server begins, with whatever it finds, a run begins with a file of its live leases alone, and its header has its limits, its start and
+-- what its clock read.
 abbrev pub StartBeginsARun : Type 0
 StartBeginsARun = (f : Found) (b : Begun) (rows : Option ℕ) → BeginsAs f b → Begins (kept_of b) b.header.last (held_of rows b) × HasOwnHeader b
 
@@ -49,12 +50,14 @@ pub record IsUnderWay (config : ConfigValue) (acts : List Act) (kept : Kept) (la
 abbrev pub acts_of_start : Begun → List Act
 acts_of_start b = act_at b.server.last ∷ act_at b.server.last ∷ act_at b.server.last ∷ []
 
--- So is a server that begins anew, the first time
+-- A server that begins anew for the first time, with these limits, is under way.
 abbrev pub FirstStart : Type 0
 FirstStart = (config : ConfigValue) (f : Found) (b : Begun) (rows : Option ℕ) (reason : Reason) → f.config ≡ config → BeginsAs f b → b.reason ≡ Some reason → IsUnderWay config (acts_of_start b) (kept_of b) b.header.last (held_of rows b)
 
--- and one that ran, crashed at or within any call of its devices, and began again: it goes on with what the crash left, or begins anew.
--- Where it goes on, all that it lived so far counts as later by one shift. It may have another number of rows than before.
+-- So is one that ran, crashed at or within any call of its devices, and began again: it goes on with what the crash left, or begins anew.
+-- Where it goes on, all that it lived so far counts as later by one shift. It may have another number of rows than before. It is a premise
+-- that the start finds what was left (`FindsLeft`), or, where it begins anew, has the same LIFE and LONGEST. Where the file's own clock goes
+-- on, it is a premise that it hasn't gone back (`HasNotGoneBack`).
 abbrev pub NextStart : Type 0
 NextStart = (config : ConfigValue) (acts : List Act) (kept : Kept) (last : ℕ) (old new : Held) (seen : List Seen) → IsUnderWay config acts kept last old → Runs old seen new → IsConfig config
     → (before behind : List DeviceCall) (left : List Change) → calls_in seen ≡ before ++ behind → (may : MayLeaveAfter kept (stored_in before) left)

@@ -24,6 +24,7 @@ module _ {P C : Type 0} (does : P → PortCall → P → Type 0) (changes : P �
     reads_clock : (now : ℕ) (clock : C) → tells old.clock now clock → BareWorks old (record old { clock = clock })
     port_changes : (port : P) → changes old.port port → BareWorks old (record old { port = port })
 
+  -- any number of these
   pub data IsBareAtWork (old : Bare P C) : Bare P C → Type 0 where
     begins : IsBareAtWork old old
     goes_on : (mid new : Bare P C) → IsBareAtWork old mid → BareWorks mid new → IsBareAtWork old new
@@ -37,7 +38,8 @@ pub record BareStarts {P C : Type 0} (tells : C → ℕ → C → Type 0) (confi
   pub starts : ServerStarts config now server
   pub limit : first.server ≡ limited rows server
 
--- From nothing, a start and such work is a life of the server too. A reply leaves before the clock is read again.
+-- From nothing, a start and such work is a life of the server too. A reply leaves before its clock reads a later time. Behind the last call its port
+-- may have changed again, any number of times.
 pub record BareWorkIsLived {P C : Type 0} (does : P → PortCall → P → Type 0) (changes : P → P → Type 0) (tells : C → ℕ → C → Type 0) (config : ConfigValue) (boot : C) (first new : Bare P C) : Type 0 where
   pub port : P
   pub changed : HasChanged changes port new.port

@@ -64,7 +64,7 @@ going_on now acts story = record { acts = story.acts ++ acts; last = now }
 abbrev pub AreAt : (now : ℕ) → List Act → Type 0
 AreAt now acts = AllByRecursion (λ act. act.now ≡ now) acts
 
--- An act of the story has this sending, and the clock read its time no longer than `slack` before what it read last.
+-- An act of the story has this sending, and what the clock read last is no more than `slack` past the time of that act.
 pub record IsOfAnAct (slack : ℕ) (story : Story) (to : Route) (octets : List ℕ) : Type 0 where
   pub act : Act
   pub acted : Contains story.acts act
@@ -78,8 +78,9 @@ IsQuiet (of_port (send_failed to octets)) = ⊥
 IsQuiet (reads now) = ⊥
 IsQuiet call = ⊤
 
--- The calls are these acts. At a reading of the clock stand acts at that time: of what the port received right before it, or of nothing
--- that came. Whatever is sent later is of an act that stands before. A datagram behind which no such reading is was dropped.
+-- These calls are of these acts. At a reading of the clock stand acts at that time, or none: of what the port received right before it, or of
+-- nothing that came. Whatever is sent later is of an act that stands before. A datagram at no act was dropped. What an act sends may never
+-- leave.
 pub data AreActs (slack : ℕ) : Story → List Call → Story → Type 0 where
   ends : (story : Story) → AreActs slack story [] story
   is_quiet : (old new : Story) (call : Call) (calls : List Call) → IsQuiet call → AreActs slack old calls new → AreActs slack old (call ∷ calls) new
@@ -100,7 +101,7 @@ pub record IsLived {E P C S : Type 0} (lives : E → Act → E → Type 0) (slac
   pub lived : Chain lives old_end story.acts new_end
   pub are_acts : AreActs slack no_story calls story
 
--- Cut off behind any of its calls, it lived so far.
+-- Cut off behind some of its calls, it lived so far, by the first of its acts.
 pub record IsCutAt {E : Type 0} (lives : E → Act → E → Type 0) (slack : ℕ) (old_end : E) (before : List Call) (story : Story) : Type 0 where
   pub mid_end : E
   pub so_far : Story

@@ -16,8 +16,8 @@ use Rattle.nbt_world.specs.Step.{SpellMove}
 use Rattle.nbt_world.specs.World.{WorldValue, IsOfEnd}
 use Rattle.nbt_net.specs.Wire.{Comes, AllMayCome, sent_by}
 
--- It may come to the port beneath: as to any end; and of what comes from an end's address nothing is taken for a registration. So no
--- program there sends OPCODE 15, or an overwrite of a group.
+-- It may come to the port beneath: it comes as to any end, and nothing that comes from an end's address is taken for a registration. So no
+-- program there registers by OPCODE 15, or by an overwrite of a group.
 abbrev pub MayComeBeneath : WorldValue → (to : Addr) → PortCall → Type 0
 MayComeBeneath wire to (came from octets) = Comes wire from.peer to octets × (IsOfEnd wire.ends from.peer.ip → (r : Registration) → ¬ IsTaken octets r)
 MayComeBeneath wire to call = ⊤
@@ -28,8 +28,8 @@ pub data IsFronts (front : FrontValue) (d : Datagram) : Type 0 where
   moves_none : ¬ SpellMove d.octets.items → IsFronts front d
   confirms : (r : Registration) (fixed : FixedValue) → d.octets.items ≡ text (registered 0 r) → fixed_of front.fixed r.name ≡ Some fixed → IsHolder d.to.ip r.kind r.addr fixed → IsFronts front d
 
--- The calls of the server's port are such calls of the port beneath. What may come there may come to the server; and what is sent there is
--- sent by the server, or is the front's. The front stays.
+-- These calls of the server's port are some calls of the port beneath. Where all that comes there may come, all that comes to the server may. What
+-- is sent there is sent by the server, or is the front's. The front stays.
 pub record AreThrough {P : Type 0} (does : P → PortCall → P → Type 0) (old : Fronted P) (calls : List PortCall) (new : Fronted P) : Type 0 where
   pub below : List PortCall
   pub did : Chain does old.port below new.port

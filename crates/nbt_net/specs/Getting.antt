@@ -40,7 +40,8 @@ pub record Gets (config : ConfigValue) (addrs : List Addr) (before : List Happen
   pub stays : now ≡ record wire { sent = now.sent }
   pub holds_it : holds_now now hosts index r.name ≡ Some r.kind
 
--- From nothing each host gets each name but `*` that it registers, and all clocks have kept the drift bound.
+-- From nothing each host gets each name that doesn't begin with `*` and that it registers for its own address, and all clocks have kept the drift
+-- bound.
 abbrev pub NewNetworkGets : Type 0
 NewNetworkGets = (config : ConfigValue) (addrs : List Addr) (index : ℕ) (at : Addr) (r : Registration) → IsConfig config → AreAddrs addrs → slice_get addrs (suc index) ≡ Some at → IsRegistration r → IsOwn at.ip r.name r.addr
     → (before : List Happening) × (wire : WorldValue) × IsTrue wire.kept × Gets config addrs before wire index at r
@@ -62,7 +63,8 @@ pub record HostCanGet (config : ConfigValue) (addrs : List Addr) (before : List 
   pub addr_is : r.addr ≡ at.ip
   pub id_is : r.id ≡ node.next_id
 
--- This network goes on so that the host gets the name. Its first wire stays. The server and the host go on from what they were. Each other host is as it was.
+-- This network goes on by these acts, and then the host holds the name. Its first wire stays. Its server and the host go on from what they were. Each
+-- other host is as it was.
 pub record GoesOnSo {config : ConfigValue} {addrs : List Addr} {before : List Happening} {wire : WorldValue} {server : ServerValue} {hosts : ℕ → Option NodeValue} (net : Network config addrs before wire (up server) hosts) (index : ℕ) (at : Addr) (node : NodeValue) (r : Registration) : Type 0 where
   pub gets : Gets config addrs before wire index at r
   pub first_stays : gets.net.first ≡ net.first
@@ -70,7 +72,7 @@ pub record GoesOnSo {config : ConfigValue} {addrs : List Addr} {before : List Ha
   pub host_goes_on : Chain (HostLives config wire.ends.server_addr at) (Some node) (acts_of (suc index) (getting wire index at r (granted config.longest r.ttl))) (gets.hosts index)
   pub others_stay : (other : ℕ) → other ≢ index → gets.hosts other ≡ hosts other
 
--- So does each such network.
+-- So does each network in which a host can get a name.
 abbrev pub NetworkGets : Type 0
 NetworkGets = (config : ConfigValue) (addrs : List Addr) (before : List Happening) (wire : WorldValue) (server : ServerValue) (hosts : ℕ → Option NodeValue) (index : ℕ) (at : Addr) (node : NodeValue) (r : Registration)
     → (can : HostCanGet config addrs before wire server hosts index at node r) → GoesOnSo can.net index at node r
@@ -79,14 +81,16 @@ NetworkGets = (config : ConfigValue) (addrs : List Addr) (before : List Happenin
 abbrev pub wanted_by : Registration → Want
 wanted_by r = record { name = r.name; kind = r.kind; ttl = r.ttl }
 
--- The server replied, and whatever the reply makes of the host that hears it, the host holds the name.
+-- The server replied, and whatever the reply makes of the host that hears it at this moment, the host holds the name.
 pub record IsGot (wire : WorldValue) (index : ℕ) (asked : NodeValue) (r : Registration) (reply : Option MessageValue) : Type 0 where
   pub message : MessageValue
   pub reply_is : reply ≡ Some message
   pub holds_it : (calls : List PortCall) (notice : Option Notice) (new : NodeValue)
       → HostHears wire.ends.server_addr (reading wire.now (suc index)) asked (came (route_to wire.ends.server_addr) (text message) ∷ calls) notice new → holds new r.name (reading wire.now (suc index)) ≡ Some r.kind
 
--- Nothing else can come of the request: whatever it makes of the host, and whatever the turn in which it comes makes of the server, unless memory is refused in it, the host gets the name.
+-- Where the host requests the name, the server's next turn takes that, and the host hears the reply, all at this moment, nothing else can come of it:
+-- whatever the request makes of the host, and whatever the turn makes of the server, the reply gives the host the name. A turn in which memory is refused
+-- takes nothing.
 abbrev pub RequestGets : Type 0
 RequestGets = (config : ConfigValue) (addrs : List Addr) (before : List Happening) (wire : WorldValue) (server : ServerValue) (hosts : ℕ → Option NodeValue) (index : ℕ) (at : Addr) (node : NodeValue) (r : Registration)
     → HostCanGet config addrs before wire server hosts index at node r

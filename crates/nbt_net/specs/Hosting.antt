@@ -20,7 +20,7 @@ abbrev pub host_machine : {P K : Type 0} → P → K → Machine P K (Unit {0})
 host_machine port watch = record { port = port; clock = watch; store = None }
 
 -- From nothing a host lived with this port and these clocks, at its one server, and then its node was this. What it sends leaves before
--- its clock is read again.
+-- its clock reads a later time.
 abbrev pub HostIsLived : {P K : Type 0} → (P → PortCall → P → Type 0) → (K → ℕ → K → Type 0) → (K → Look → K → Type 0) → HostArguments → P → K → (node : NodeValue) → P → K → Type 0
 HostIsLived does tells looks a old_port old_watch node port watch =
     IsLived (HostLives a.config a.server a.bind) 0 does (TellsOrLooks tells looks) NoStore None (host_machine old_port old_watch) (Some node) (host_machine port watch)

@@ -24,8 +24,7 @@ pub data HostActs (server : Addr) (now : ℕ) (old : NodeValue) : List PortCall 
   loses_reply : (calls : List PortCall) (new : NodeValue) → LosesReply now old calls new → HostActs server now old calls new
   cannot_hear : HostActs server now old (receive_failed ∷ []) old
 
--- A host with this address and server starts, and knows nothing; it acts; and it crashes. A machine that slept does both, one after the
--- other.
+-- A host with this address and server starts, and knows nothing; it acts; and it crashes. Where its machine slept it crashes and starts.
 pub data HostLives (config : ConfigValue) (server at : Addr) : Option NodeValue → Act → Option NodeValue → Type 0 where
   starts : (now first_id : ℕ) → HostLives config server at None (act_at now) (Some (started_from slots_most at server config now first_id))
   does : (now : ℕ) (calls : List PortCall) (old new : NodeValue) → HostActs server now old calls new → HostLives config server at (Some old) (record { now = now; calls = calls }) (Some new)

@@ -34,8 +34,9 @@ abbrev pub LivesLater : Type 0
 LivesLater = (config : ConfigValue) (more : ℕ) (old new : ServerEnd) (acts : List Act) → Chain (ServerLives config) old acts new → Chain (ServerLives config) (later_end more old) (map (later_act more) acts) (later_end more new)
 
 -- A server that keeps its leases lived so far; it ran, and crashed at some time; and a start found what that left, and went on. Then the
--- life goes on with the server that begins, by the clock of that start: it resumes, and then it has the number of rows of the start. All of
--- the life so far counts as later by one shift, and what the crash cut off is no part of it.
+-- life goes on with the server that begins, by the clock of that start: it resumes, and then it has the number of rows of the start. It has
+-- the earlier server's limit of clients. All of the life so far counts as later by one shift, and what the crash cut off is no part of it.
+-- Where the file's own clock goes on, it is a premise that it hasn't gone back (`HasNotGoneBack`).
 abbrev pub RestartGoesOn : Type 0
 RestartGoesOn = (config : ConfigValue) (kept : Kept) (last : ℕ) (old new : Held) (seen : List Seen) → Begins kept last old → Runs old seen new → IsConfig old.server.table.config
     → (before behind : List DeviceCall) (left : List Change) → all_calls_in seen ≡ before ++ behind → (may : MayLeaveAfter kept (stored_in before) left)

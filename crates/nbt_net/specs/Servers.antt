@@ -7,7 +7,7 @@ use Rattle.nbt_server.specs.Calls.{ServerStarts, ServerResumes, limited}
 use Rattle.nbt_serve.specs.Serving.{Turn, acts_in as calls_in, moments_in, Turns, Failure, acts_of as calls_of, moments_of, Fails}
 use Rattle.nbt_net.specs.Wire.{Act}
 
--- The server never was up; it is up; or it is down, and was so.
+-- The server was never up; it is up; or it is down, and was this server as it went down.
 pub data ServerEnd : Type 0 where
   never_up : ServerEnd
   up : ServerValue → ServerEnd
@@ -36,9 +36,9 @@ AreReadAt now moments = AllByRecursion (λ moment. moment ≡ now) moments
 abbrev pub with_rows : (rows : ℕ) → ServerValue → ServerValue
 with_rows rows server = record server { table = record server.table { config = record server.table.config { rows = rows } } }
 
--- A server starts and knows nothing; or it resumes, with the leases that it had. It has another limit for its clients, or none; or it has
--- another number of rows. It goes through a turn, or the device fails in it; a reply is sent at its turn, or later, while it may still come,
--- or never. And it crashes.
+-- A server starts and knows nothing; or it resumes, with the leases that it had. It gets another limit for its clients, or none; or it gets
+-- another number of rows. It goes through a turn, or the device fails in it. A reply stands at its turn, whenever it leaves, and also where it
+-- never does: what is on the wire may come for a life, or not at all. And it crashes.
 pub data ServerLives (config : ConfigValue) : ServerEnd → Act → ServerEnd → Type 0 where
   starts : (now : ℕ) (server : ServerValue) → ServerStarts config now server → ServerLives config never_up (act_at now) (up server)
   starts_anew : (now : ℕ) (was server : ServerValue) → ServerStarts config now server → ServerLives config (down was) (act_at now) (up server)

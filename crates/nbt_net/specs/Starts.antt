@@ -20,8 +20,8 @@ use Rattle.nbt_store.specs.declared.beginning.Begun.{Begun}
 use Rattle.nbt_store.specs.declared.resuming.Found.{Found}
 use Rattle.nbt_net.specs.Servers.{with_rows}
 
--- What a start finds are octets that a crash left: a file of these changes, whose header has this last time, and the start of the server
--- that ran. The start has that server's life and longest lease. It may have another number of rows.
+-- What a start finds are octets that a crash left: a file of these changes, whose header has this last time, and the time at which the
+-- server that ran began. The limits of this start have that server's life and longest lease. They may have another number of rows.
 pub record FindsLeft (ran : ServerValue) (last : ℕ) (left : List Change) (f : Found) : Type 0 where
   pub octets : Bor (List ℕ)
   pub header : Header
@@ -39,8 +39,8 @@ abbrev pub HasNotGoneBack : {ran : ServerValue} {last : ℕ} {left : List Change
 HasNotGoneBack {left = left} {f = f} found was b = IsTrue (is_same_clock found.header (times_after_all left (first_times found.header)) f.seen) → was.last ≤ b.server.last
 
 -- The server that begins is that one, resumed with all of its times so much later, and with the number of rows of the start. At the start
--- its clock reads no less than the last time of what was left, and it serves from no earlier than that on. That clock is the machine's, as
--- much ahead as the header of its own file says.
+-- its clock reads no less than the last time of what was left, counted so much later, and it serves from no earlier than that reading on.
+-- That clock is the machine's, as much ahead as the header of its own file says. Its limit of clients is set to that one's.
 pub record ResumesLater (was : ServerValue) (last : ℕ) (left : List Change) (f : Found) (b : Begun) : Type 0 where
   pub shift : ℕ
   pub resumes : ServerResumes (with_rows f.config.rows (shifted_server shift was)) b.server.last (limited was.client_rows b.server)
@@ -48,7 +48,8 @@ pub record ResumesLater (was : ServerValue) (last : ℕ) (left : List Change) (f
   pub machine : b.reads ≡ f.seen.monotonic + b.header.ahead
   pub serves : b.reads ≤ b.server.last
 
--- Whatever a crash leaves of a run, a start that finds it and goes on resumes an earlier server of that run.
+-- Whatever a crash leaves of a run, a start that finds it and goes on resumes an earlier server of that run. Where the file's own clock goes on, it
+-- is a premise that it hasn't gone back (`HasNotGoneBack`).
 abbrev pub StartResumesAnEarlierServer : Type 0
 StartResumesAnEarlierServer = (kept : Kept) (last : ℕ) (old new : Held) (seen : List Seen) → Begins kept last old → Runs old seen new → IsConfig old.server.table.config
     → (before behind : List DeviceCall) (left : List Change) → calls_in seen ≡ before ++ behind → (may : MayLeaveAfter kept (stored_in before) left)

@@ -49,7 +49,7 @@ pub record LivesThrough (t : Terms) (old : HostValue) (calls : List PortCall) (l
   pub calls_are : LeavesReceivesOut (calls_in acts) calls
   pub addr_is : new.node.addr ≡ old.node.addr
 
--- so is each turn, and each one in which the device fails
+-- So is each turn, and each one in which the device fails. It is a premise that the host has 14 slots (`slots_most`).
 abbrev pub HostTurnsAreLived : Type 0
 HostTurnsAreLived = (t : Terms) (old new : HostValue) (calls : List PortCall) (looks : List Look) → t.slots ≡ slots_most → HostTurn t old calls looks new → LivesThrough t old calls looks new
 
@@ -78,12 +78,12 @@ ServerRunsAreLived = (config : ConfigValue) (old new : Held) (seen : List Seen) 
 
 -- ---- a server that keeps its leases, and crashes
 
--- it lived through these turns, and crashed
+-- what it lived through before the crash
 abbrev pub acts_before : {first : ServerValue} {turns : List Turn} {gone : List DatagramValue} {last : ℕ} {left : List Change} → IsEarlier first turns gone last left → List Act
 acts_before e = acts_of_turns (e.front ++ e.asked)
 
--- Its life, as whatever a crash left of it has it: up to some turn, and the queries behind that which were answered. Each reply that has left was
--- sent in it.
+-- Its life, as whatever a crash left of it has it: up to some turn, and some queries behind that, which were answered. Each reply that has left, or
+-- was lost as it was sent, was sent in it.
 pub record IsCutShort (config : ConfigValue) (first : ServerValue) (turns : List Turn) (gone : List DatagramValue) (last : ℕ) (left : List Change) : Type 0 where
   pub earlier : IsEarlier first turns gone last left
   pub lives : (now : ℕ) → Chain (ServerLives config) (up first) (acts_before earlier ++ act_at now ∷ []) (down earlier.server)

@@ -19,7 +19,7 @@ use Rattle.nbt_net.specs.Servers.{up, ServerLives}
 
 -- ---- another front, between two calls
 
--- another front takes the place of that of a port
+-- another front takes the place of that of a port, by whatever leases
 abbrev pub PutsFront : {P : Type 0} → Fronted P → Fronted P → Type 0
 PutsFront old new = (front : FrontValue) × (live : Rows) × (at : ℕ) × (new ≡ record old { desk = renewed front live at old.desk })
 
@@ -28,18 +28,18 @@ pub data HasChanged {P : Type 0} (changes : P → P → Type 0) (old : P) : P �
   stays : HasChanged changes old old
   changed_again : (mid new : P) → HasChanged changes old mid → changes mid new → HasChanged changes old new
 
--- a call of a port, which may have changed right before it
+-- a call of a port, which may have changed right before it, any number of times
 abbrev pub DoesChanged : {P : Type 0} → (P → PortCall → P → Type 0) → (P → P → Type 0) → P → PortCall → P → Type 0
 DoesChanged {P} does changes old call new = (mid : P) × HasChanged changes old mid × does mid call new
 
 -- ---- its work
 
--- a header of its own is one with another pair too, a moment and the time of day at it
+-- a header of its own is one with any other pair too, a moment and the time of day at it
 abbrev pub HaveAnyPair : (Header → Type 0) → Type 0
 HaveAnyPair own = (header : Header) (moment time : ℕ) → own header → own (header_at header moment time)
 
 module _ {P S C D : Type 0} (does : P → PortCall → P → Type 0) (changes : P → P → Type 0) (keeps : S → StoreCall → S → Type 0) (tells : C → ℕ → C → Type 0) (days : D → ℕ → D → Type 0) (own : Header → Type 0) where
-  -- It goes through a turn, or its port fails in one; its clock is read; its file is looked after, whose header is one of its own; or its port changes.
+  -- It goes through a turn, or its port fails in one; its clock is read; its file is looked after, with a header of its own; or its port changes.
   pub data Works (old : Keeping P S C) : Keeping P S C → Type 0 where
     takes_turn : (entry : Option Entry) (sent : Sent) (new : Keeping P S C) → KeepsTurn does keeps tells old entry sent new → Works old new
     port_fails : (new : Keeping P S C) → BreaksKeeping does keeps tells fault.Port old new → Works old new
@@ -59,7 +59,7 @@ module _ {P S C D : Type 0} (does : P → PortCall → P → Type 0) (changes : 
     begins : IsAtWork old old
     goes_on : (mid new : Keeping P S C) → IsAtWork old mid → Works mid new → IsAtWork old new
 
-  -- and it goes on, or that was the end
+  -- it is at work still, or its store failed at last
   abbrev pub HasWorked : Keeping P S C → Keeping P S C → Type 0
   HasWorked old new = IsAtWork old new ⊎ ((mid : Keeping P S C) × IsAtWork old mid × StopsWork mid new)
 
@@ -67,9 +67,9 @@ module _ {P S C D : Type 0} (does : P → PortCall → P → Type 0) (changes : 
 abbrev pub held_in : {P S C : Type 0} → Keeping P S C → Held
 held_in here = record { server = here.server; waiting = here.waiting }
 
--- Such work is a life of the server, call by call. A reply leaves no longer than a datagram's life after its request was read, or never. The calls of
--- its port and of its store are those of a run of a server that keeps its leases. Each new file is begun with a header of its own. Behind the last
--- call its port may have changed once more.
+-- Such work is a life of the server, call by call. A reply leaves only where its clock, as it was read last, reads no more than LIFE past the reading
+-- of its request, or never. The calls of its port and of its store are those of a run of a server that keeps its leases. Each new file is begun with a
+-- header of its own. Behind the last call its port may have changed again, any number of times.
 pub record WorkIsLived {P S C : Type 0} (does : P → PortCall → P → Type 0) (changes : P → P → Type 0) (keeps : S → StoreCall → S → Type 0) (tells : C → ℕ → C → Type 0) (own : Header → Type 0) (config : ConfigValue) (old new : Keeping P S C) : Type 0 where
   pub port : P
   pub changed : HasChanged changes port new.port

@@ -57,7 +57,8 @@ pub fn a_hosts_act_is_a_run()
 }
 
 /// A host's turn is acts of its life, at the looks at its clocks, with the calls of its port; so is a turn in which the device fails, and
-/// so are turns one after the other. Where the machine slept the host crashes and starts at that look.
+/// so are turns one after the other. Where the machine slept the host crashes and starts at that look, and nothing is made of what it received right before it: of the calls only such
+/// receives are left out. It is a premise that the host has 14 slots.
 pub fn a_hosts_turn_is_lived()
     ensures turn { HostTurnsAreLived }
     ensures broken { BrokenTurnsAreLived }
@@ -75,7 +76,7 @@ pub fn a_servers_turns_are_lived()
 /// What the contract of [`nbt_host::host_over`] says of a host with one server is a life of it, from its first call to its last: until its time is over and its
 /// names are given back (`ok`), or until it ends early (`failed`). It leads from the port and the clocks that it was given to those that it had at last, and to the node that it had then. So it is of the port and the clocks of
 /// [`nbt_host::run_host`] (`here`, `here_failed`). All that its port and its clocks did stands in one order. At each
-/// reading of the clocks stand the acts at that time: what came right before it is handled at it, and what is sent leaves before the next one.
+/// reading of the clocks stand the acts at that time: what came right before it is handled at it, and what is sent leaves before one that reads a later time.
 pub fn a_whole_host_is_lived<P: Port, K: Clock + Watch>()
     ensures ok { HostsAreLived P.does K.tells K.looks }
     ensures failed { FailedHostsAreLived P.does K.tells K.looks }
@@ -85,9 +86,9 @@ pub fn a_whole_host_is_lived<P: Port, K: Clock + Watch>()
 
 /// Whatever a server does with its devices, one thing after another in any order, is a life of it, call by call: turns, also those in which its port
 /// fails, readings of its clock, looks at its file, and other fronts that take the place of its own between two calls. It goes on, or its store failed
-/// at last (`kept`); its port's and its store's calls are then those of a run of a server that keeps its leases. Where no reply waits at first, one
-/// leaves no longer than a datagram's life after its request was read. Where its file is looked after with headers of its own alone, as those with
-/// one start, each new file is begun with one of them. Without a state (`bare`) it lives from its start on, and a reply leaves before the clock is read again.
+/// at last (`kept`); its port's and its store's calls are then those of a run of a server that keeps its leases. It is a premise that no reply waits at first. A reply
+/// leaves only where its clock, as it was read last, reads no more than LIFE past the reading of its request, or never. Where its file is looked after with headers of its own alone, as those with
+/// one start, each new file is begun with one of them. Without a state (`bare`) it lives from its start on, and a reply leaves before its clock reads a later time.
 pub fn a_server_at_work_is_lived<P: Port, S: Store, C: Clock, D: Clock>()
     ensures kept { (own : Header → Bool) (old new : Keeping (Fronted P) S C) → HaveAnyPair (λ header. IsTrue (own header)) → old.waiting.replies ≡ [] → HasWorked (FrontDoes P.does) PutsFront S.does C.tells D.tells (λ header. IsTrue (own header)) old new
         → WorkIsLived (FrontDoes P.does) PutsFront S.does C.tells (λ header. IsTrue (own header)) old.server.table.config old new }
@@ -120,8 +121,9 @@ pub fn a_host_lives_the_same_by_a_shifted_clock()
     nbt_node::laws::a_shifted_node_does_the_same();
 }
 
-/// By such a clock a server lives the same life too. So its life goes on over a crash and a start that finds what it left, by the clock of that start, over any number of crashes: by that clock the
-/// server resumes with the leases that it had, its number of rows may be another one, and what the crash cut off is no part of its life.
+/// By such a clock a server lives the same life too. So its life goes on over a crash and a start that finds what it left, and goes on, by the clock of that start: by that clock the
+/// server resumes with the leases that it had, its number of rows may be another one, and what the crash cut off is no part of its life. It has the earlier server's limit
+/// of clients. Where the file's own clock goes on, it is a premise that it hasn't gone back (`HasNotGoneBack`). [`a_server_lives_over_any_number_of_crashes`] says it of any number.
 pub fn a_life_goes_on_after_a_restart()
     ensures later { LivesLater }
     ensures restart { RestartGoesOn }
@@ -139,10 +141,11 @@ pub fn a_front_moves_no_name_of_an_end<P: Port>()
     ensures strict { (calls : List PortCall) (old new : Fronted P) → Chain (FrontDoes P.does) old calls new → AreThrough P.does old calls new }
 {}
 
-/// However a server that keeps its leases begins, a run begins with what it wrote, and the header of its file has its limits, its start and the
-/// time that its clock read (`begins`). So it lives over any number of crashes, each at or within any call of its devices: what holds of the first
-/// start (`first`) holds of the next one (`next`), which goes on with what the crash left or begins anew, and so of each behind it. Each start may
-/// have a number of rows of its own; all have one life and one longest lease.
+/// However a server that keeps its leases begins, a run begins with a file of its live leases alone, and its header has its limits, its start and the
+/// time that its clock read (`begins`). So it lives over any number of crashes, each at or within any call of its devices: what holds of a first
+/// start, which begins anew (`first`), holds of the next one (`next`), which goes on with what the crash left or begins anew, and so of each behind it. Each start may
+/// have a number of rows of its own; all have one life and one longest lease. It is a premise that a start that goes on finds what was left
+/// (`FindsLeft`). Where the file's own clock goes on, it is a premise that it hasn't gone back (`HasNotGoneBack`).
 pub fn a_server_lives_over_any_number_of_crashes()
     ensures begins { StartBeginsARun }
     ensures first { FirstStart }
@@ -170,6 +173,7 @@ pub fn a_crash_leaves_the_header_that_was_written<D: Disk>()
 /// lease (`found`). It is a premise that each new file was begun with a header that has these. `nbt_whole` says of a whole server that it was. And so
 /// a server whose store is over a disk lives over any number of crashes, each at or within any call of its devices: what holds as it begins holds as
 /// it begins again (`next`).
+/// Where the file's own clock goes on, it is a premise that it hasn't gone back (`HasNotGoneBack`).
 pub fn a_start_finds_what_the_disk_kept<D: Disk>()
     ensures found { StartFindsLeft D.does }
     ensures next { DiskNextStart D.does }
@@ -179,7 +183,7 @@ pub fn a_start_finds_what_the_disk_kept<D: Disk>()
     nbt_store::laws::a_file_has_one_reading();
 }
 
-/// A network of programs is safe: from a wire on which nothing happened yet, through all that may happen, no two hosts hold one name, unless
+/// A network of a server and one to eight hosts, no two at one 32-bit address, is safe: from a wire on which nothing happened yet, through all that may happen, no two hosts hold one name, unless
 /// both as a group, at any time up to which the clocks were timely; and so at any up to which they kept the drift bound. `timely` and `kept`
 /// say exactly whether they were and did, between any two of the times. The network is a run of a world.
 pub fn lives_are_safe()
@@ -200,7 +204,7 @@ pub fn lives_are_safe()
 
 /// A start that finds what a crash left of a run, and goes on, resumes an earlier server of that run, which knows of each reply that has
 /// left. All times of that server count as later by one constant. Its live leases, its start, its life and its longest lease are the same,
-/// and it has the number of rows of this start. It serves from no earlier than any time at which it served before. So this start is the world's
+/// and it has the number of rows of this start. It serves from no earlier than that server's last datagram, counted so much later. So this start is the world's
 /// event of a server that resumes, where all times of the server's end count so; and its number of rows is another one then.
 ///
 /// Where the clock of the file's own boot goes on, it is a premise that this clock reads no less than at the earlier server's last
@@ -220,7 +224,7 @@ pub fn a_start_resumes_an_earlier_server()
 /// A server was down for a millisecond or longer, and its clock goes on over another boot of the machine, or on another machine. Whatever
 /// the machine's clock shows then, the clock at the server's place isn't ahead of any earlier time that the old one wasn't ahead of, as
 /// long as the new one isn't ahead from the start on. Between two later times between which the new one isn't ahead, the place's isn't
-/// either, and it never goes back. The server serves only once the new clock reads no less than any time at which the old one served;
+/// either, and it never goes back. Where the old one served no more than a second past the last time of the file, the server serves only once the new clock reads no less than any time at which the old one served;
 /// from then on the place's clock is the new one.
 pub fn a_clock_over_another_boot_is_not_ahead()
     ensures not_ahead { (h : Header) (times : Times) (seen : Seen) (true_then read_then true_now read_now pause true_later read_later : ℕ) → times.last ≤ read_now → IsNotAhead true_then read_then true_now read_now
@@ -237,8 +241,8 @@ pub fn a_clock_over_another_boot_is_not_ahead()
     nbt_store::laws::a_new_clock_begins_at_the_last_time();
 }
 
-/// A network of programs isn't empty: from nothing each host gets each name but `*` that it registers, while all clocks keep the drift bound (`anew`). In any network a host that can get a name gets it
-/// by three acts at one time, its own, the server's and its own (`gets`); and nothing else can come of its request, unless the server was out of memory for it (`surely`).
+/// A network of programs isn't empty: from nothing each host gets each name that doesn't begin with `*` and that it registers, while all clocks keep the drift bound (`anew`). Any network in which a host can get a name goes on so that it gets it
+/// by three acts at one time, its own, the server's and its own, and each other host is as it was (`gets`). Where the server takes the request and the host hears the reply, all at that moment, the host gets the name whatever each of them makes of it (`surely`).
 pub fn a_network_gets_a_free_name()
     ensures anew { NewNetworkGets }
     ensures gets { NetworkGets }
