@@ -1,4 +1,4 @@
-//! A network of the programs' own acts is a run of a world; and what a server is after a crash and a start, and what its clock reads: each
+//! A network of the programs' own acts leads to a world; and what a server is after a crash and a start, and what its clock reads: each
 //! law is the contract of a function that does nothing.
 
 ghost use Rattle.std.specs.Prelude.{◌≡◌, ℕ, ◌+◌, ◌≤◌, ◌↔◌, Bool, List, [], ◌++◌, Option, Some, None, IsTrue};
@@ -44,12 +44,12 @@ use nbt_host::Watch;
 use nbt_port::{Clock, Port};
 use nbt_store::{Disk, Store};
 
-/// What a server does at one reading of its clock is a run of the world, with what its port sends: it starts, resumes, takes a turn or fails in it, or crashes.
+/// What a server does at one reading of its clock leads a world on, with what its port sends: it starts, resumes, gets another limit of clients or another number of rows, takes a turn or fails in it, or crashes.
 pub fn a_servers_act_is_a_run()
     ensures { ServersActIsARun }
 {}
 
-/// So is what a host does at one reading of its clock: it starts, requests a name or gives it back, polls, hears and replies, fails at one of these, or crashes. What it answers to a query moves no name, and the world has nothing of it.
+/// So does what a host does at one reading of its clock, where the world keeps its facts (`Invariant`): it starts, requests a name or gives it back, polls, hears and replies, fails at one of these, or crashes. What it answers to a query moves no name, and the world has nothing of it.
 pub fn a_hosts_act_is_a_run()
     ensures { HostsActIsARun }
 {
@@ -185,7 +185,7 @@ pub fn a_start_finds_what_the_disk_kept<D: Disk>()
 
 /// A network of a server and one to eight hosts, no two at one 32-bit address, is safe: from a wire on which nothing happened yet, through all that may happen, no two hosts hold one name, unless
 /// both as a group, at any time up to which the clocks were timely; and so at any up to which they kept the drift bound. `timely` and `kept`
-/// say exactly whether they were and did, between any two of the times. The network is a run of a world.
+/// say exactly whether they were and did, between any two of the times. The network leads to a world with the wire's clocks and addresses, and the hosts as its nodes (`run`).
 pub fn lives_are_safe()
     ensures run { (config : ConfigValue) (addrs : List Addr) (happenings : List Happening) (now : WorldValue) (server : ServerEnd) (hosts : ℕ → Option NodeValue)
         → AreAddrs addrs → (net : Network config addrs happenings now server hosts) → NetworkIsARun net.first now hosts }
