@@ -1,5 +1,5 @@
 -- A server without a state at work with its devices is a part of its life after another.
-use Rattle.std.proofs.Common.{◌≡◌, ℕ, List, [], ◌∷◌, ◌++◌, Option, refl, ap}
+use Rattle.std.proofs.Common.{ℕ, [], ◌∷◌, ◌++◌, Option, refl, ap}
 use Rattle.std.specs.List.{flat_map}
 use Rattle.nbt_lease.specs.Config.{ConfigValue}
 use Rattle.nbt_log.specs.declared.entry.Entry.{Entry}

@@ -1,5 +1,5 @@
 -- Calls of a port that may have changed before them: what a port did so is what it did from where it was before it changed.
-use Rattle.std.proofs.Common.{◌≡◌, List, [], ◌∷◌, refl, sym, ap, subst}
+use Rattle.std.proofs.Common.{List, [], ◌∷◌, refl, sym, ap, subst}
 use Rattle.nbt_port.specs.PortCalls.{PortCall, Chain}
 use Rattle.nbt_store.specs.Calls.{StoreCall}
 use Rattle.nbt_serve.specs.Devices.{DeviceCall, on_port, on_store, Devices, DeviceDoes}

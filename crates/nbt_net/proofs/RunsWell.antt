@@ -1,18 +1,17 @@
 -- The calls of a run's store went well, but maybe the last.
-use Rattle.std.proofs.Common.{◌≡◌, ◌∙◌, ℕ, false, Bool, Option, Some, None, List, [], ◌∷◌, ◌++◌, map, inl, inr, ap, sym, subst, refl, append_assoc, append-nil}
+use Rattle.std.proofs.Common.{◌≡◌, ◌∙◌, ℕ, false, Option, List, [], ◌∷◌, ◌++◌, map, inl, inr, ap, sym, subst, refl, append_assoc, append-nil}
 use Rattle.std.specs.Prelude.{◌⊎◌, ⊤}
 use Rattle.std.specs.List.{flat_map}
-use Rattle.nbt_port.specs.PortCalls.{Chain, PortCall, send_failed}
+use Rattle.nbt_port.specs.PortCalls.{Chain}
 use Rattle.nbt_store.specs.Calls.{StoreCall, appended, append_failed, synced, has_failed, WentWell}
 use Rattle.nbt_store.specs.declared.change.Change.{Change}
-use Rattle.nbt_serve.specs.Devices.{DeviceCall, on_port, on_store}
+use Rattle.nbt_serve.specs.Devices.{DeviceCall, on_store}
 use Rattle.nbt_serve.specs.Runs.{Held, Seen, Steps, takes_turn, port_fails, looks, begins_renewal, goes_on_renewing, renews, Ends, store_fails, look_fails, renewal_fails, Runs, goes_on, ends, calls_in, stored_in}
 use Rattle.nbt_serve.specs.Serving.{moments_in}
 use Rattle.nbt_serve.specs.Turning.{LeavingFails, sync_fails, send_fails, Fails, receive_fails, reaching_fails, append_fails, ahead_fails, leaving_fails, first_calls, reached, with_reply, Took}
-use Rattle.nbt_serve.specs.Waiting.{WaitingValue, lay_down, LineFails, not_appended, not_synced, syncs_of, sends_of, timely, leaving}
+use Rattle.nbt_serve.specs.Waiting.{WaitingValue, lay_down, LineFails, not_appended, not_synced}
 use Rattle.nbt_serve.specs.declared.fault.KeepFault.{KeepFault}
 use Rattle.nbt_serve.specs.declared.fault.KeepFault.TheVariants as fault
-use Rattle.nbt_serve.specs.declared.waiting.Unsynced.{Unsynced}
 use Rattle.nbt_net.specs.Headers.{AllButLast, all_of_them, but_the_last}
 use Rattle.nbt_net.proofs.Looks.{stores_all}
 use Rattle.nbt_net.proofs.Ordering.{stored-append}

@@ -1,5 +1,5 @@
 -- A turn of a server that keeps its leases is a part of its life with its devices: what it receives and replies to, and what waits.
-use Rattle.std.proofs.Common.{◌≡◌, ◌≤◌, ◌⊎◌, ◌+◌, ℕ, nat_le, Bool, true, false, List, [], ◌∷◌, ◌++◌, map, Contains, Option, Some, None, IfSome, refl, sym, ap, subst, ◌∙◌, append-nil, inl, inr, arith}
+use Rattle.std.proofs.Common.{◌≡◌, ◌≤◌, ◌+◌, ℕ, nat_le, Bool, true, false, List, [], ◌∷◌, ◌++◌, map, Contains, Option, Some, None, IfSome, refl, sym, ap, subst, ◌∙◌, append-nil, inl, inr, arith}
 use Rattle.std.specs.List.{flat_map, AllByRecursion}
 use Rattle.std.proofs.lemmas.Bool.{cases_Bool, leb-true}
 use Rattle.std.proofs.lemmas.List.Elements.{Contains-append_right}
@@ -11,13 +11,12 @@ use Rattle.nbt_port.specs.PortCalls.{PortCall, nothing_came, came, receive_faile
 use Rattle.nbt_server.specs.Serving.{ServerValue}
 use Rattle.nbt_store.specs.Calls.{StoreCall, append_failed, sync_failed}
 use Rattle.nbt_store.specs.declared.change.Change.{Change}
-use Rattle.nbt_serve.specs.Devices.{DeviceCall, on_port, on_store, Devices, DeviceDoes}
+use Rattle.nbt_serve.specs.Devices.{DeviceCall, on_port, on_store, DeviceDoes}
 use Rattle.nbt_serve.specs.Runs.{stored_in}
-use Rattle.nbt_serve.specs.Serving.{Turn, is_empty, is_taken, is_lost, moments_in, Turns}
-use Rattle.nbt_serve.specs.Turning.{Barred, Took, Takes, TakesAny, reply_in, receive_in, told_in, reached, with_lines, with_any, before_it, stores, behind_it, behind, sent_ahead, with_reply, first_calls, Passes, still_waits, all_leave, LeavingFails, sync_fails, send_fails, Fails, receive_fails, reaching_fails, append_fails, ahead_fails, leaving_fails}
+use Rattle.nbt_serve.specs.Serving.{Turn, is_empty, is_taken, is_lost, moments_in}
+use Rattle.nbt_serve.specs.Turning.{Barred, Took, Takes, TakesAny, reply_in, receive_in, told_in, reached, with_lines, with_any, before_it, stores, behind_it, sent_ahead, with_reply, first_calls, Passes, still_waits, all_leave, LeavingFails, sync_fails, send_fails, Fails, receive_fails, reaching_fails, append_fails, ahead_fails, leaving_fails}
 use Rattle.nbt_serve.specs.Waiting.{ReplyValue, WaitingValue, laid_down, lay_down, syncs_of, sends_of, timely, leaving}
 use Rattle.nbt_serve.specs.declared.fault.KeepFault.{KeepFault}
-use Rattle.nbt_serve.specs.declared.fault.KeepFault.TheVariants as fault
 use Rattle.nbt_net.specs.Wire.{Act}
 use Rattle.nbt_net.specs.Servers.{up, ServerLives}
 use Rattle.nbt_net.specs.Turns.{act_of}

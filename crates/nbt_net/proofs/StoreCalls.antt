@@ -1,5 +1,5 @@
 -- What holds of each call of the store in a turn.
-use Rattle.std.proofs.Common.{◌≡◌, ℕ, Bool, Option, Some, None, List, [], ◌∷◌, ◌++◌, map, ap, sym, subst, refl}
+use Rattle.std.proofs.Common.{◌≡◌, ℕ, Bool, Option, Some, None, List, [], ◌∷◌, ◌++◌, map, sym, subst}
 use Rattle.std.specs.List.{flat_map, AllByRecursion}
 use Rattle.nbt_port.specs.PortCalls.{PortCall, send_failed}
 use Rattle.nbt_store.specs.Calls.{StoreCall, appended, append_failed, synced, sync_failed}
