@@ -17,6 +17,9 @@ mod ServerActs
 mod HostActs
 -- so are all lives of a network
 mod Lives
+-- a node whose server is at another address, and a network of a server with several
+mod Readdressed
+mod Addressed
 -- what is known of the clocks along a wire
 mod Judging
 -- turns are acts

@@ -4,6 +4,7 @@ pub mod Wire
 pub mod Servers
 pub mod Hosts
 pub mod Lives
+pub mod Addresses
 pub mod Reaching
 pub mod Turns
 pub mod Restarts

@@ -22,6 +22,7 @@ ghost use Rattle.nbt_world.specs.Shifted.{shifted_server_end};
 ghost use Rattle.nbt_world.specs.Step.{Resumes};
 ghost use Rattle.nbt_world.specs.World.{WorldValue, AreAddrs, with_server};
 ghost use Rattle.nbt_world.specs.declared.ends.Ends.{Ends};
+ghost use Rattle.nbt_net.specs.Addresses.{IsAsWithOne, IsAsWithSeveral, IsServers, NetworkOfSeveralAddresses};
 ghost use Rattle.nbt_net.specs.Again.{FirstStart, NextStart, StartBeginsARun};
 ghost use Rattle.nbt_net.specs.Clocks.{counted, place_reads};
 ghost use Rattle.nbt_net.specs.Devices.{Call, Story, no_story, AreActs, IsCutAt};
@@ -200,6 +201,22 @@ pub fn lives_are_safe()
     nbt_world::laws::ids_and_early_refreshes_keep_the_facts();
     nbt_world::laws::limits_keep_the_facts();
     nbt_world::laws::facts_of_every_world();
+}
+
+/// A server may have several addresses of its own, of which each host asks one in each of its lives. Such a network is one in which all hosts ask the first (`one`). So
+/// no two hosts hold one name in it, unless both as a group, at any time up to which the clocks were timely (`timely`), or kept the drift bound (`kept`).
+/// Nor is that of nothing: each network is one in which the hosts ask any such addresses, and hold the same names (`several`).
+pub fn a_server_may_have_several_addresses()
+    ensures one { (config : ConfigValue) (addrs : List Addr) (happenings : List Happening) (now : WorldValue) (server : ServerEnd) (hosts : ℕ → Option NodeValue)
+        → NetworkOfSeveralAddresses config addrs happenings now server hosts → IsAsWithOne config addrs happenings now server hosts }
+    ensures timely { (config : ConfigValue) (addrs : List Addr) (happenings : List Happening) (now : WorldValue) (server : ServerEnd) (hosts : ℕ → Option NodeValue)
+        → AreAddrs addrs → NetworkOfSeveralAddresses config addrs happenings now server hosts → IsTrue now.timely → NoTwoHold now hosts }
+    ensures kept { (config : ConfigValue) (addrs : List Addr) (happenings : List Happening) (now : WorldValue) (server : ServerEnd) (hosts : ℕ → Option NodeValue)
+        → AreAddrs addrs → NetworkOfSeveralAddresses config addrs happenings now server hosts → IsTrue now.kept → NoTwoHold now hosts }
+    ensures several { (config : ConfigValue) (addrs : List Addr) (happenings : List Happening) (now : WorldValue) (server : ServerEnd) (hosts : ℕ → Option NodeValue)
+        → (net : Network config addrs happenings now server hosts) → (asked : ℕ → Addr) → ((index : ℕ) → IsServers net.first.ends (asked index)) → IsAsWithSeveral config addrs asked happenings now server hosts }
+{
+    lives_are_safe();
 }
 
 /// A start that finds what a crash left of a run, and goes on, resumes an earlier server of that run, which knows of each reply that has
