@@ -1,8 +1,8 @@
 -- What a host does at its server's address it does at another one: where that is the server's first, its network is one of a server with one address.
-use Rattle.std.proofs.Common.{◌≡◌, ℕ, suc, Bool, if◌then◌else◌, true, false, eqb, List, [], ◌∷◌, map, Option, Some, None, refl, sym, ap, subst, ◌∙◌, inl, inr, option_map}
+use Rattle.std.proofs.Common.{◌≡◌, ◌≢◌, ℕ, suc, Bool, if◌then◌else◌, true, false, eqb, List, [], ◌∷◌, map, Option, Some, None, refl, sym, ap, subst, ◌∙◌, inl, inr, option_map}
 use Rattle.std.specs.Prelude.{◌&&◌}
 use Rattle.std.proofs.lemmas.Option.{none-some, same_Some}
-use Rattle.std.proofs.lemmas.Bool.{cases_Bool, eq-eqb, eqb-true, and_parts, false≢true}
+use Rattle.std.proofs.lemmas.Bool.{cases_Bool, eq-eqb, ne_eqb, eqb-true, and_parts, false≢true}
 use Rattle.nbt_name.specs.declared.addr.Addr.{Addr}
 use Rattle.nbt_name.specs.Wire.{NameValue}
 use Rattle.nbt_packet.specs.Message.{MessageValue}
@@ -24,7 +24,7 @@ use Rattle.nbt_world.specs.declared.ends.Ends.{Ends}
 use Rattle.nbt_world.specs.Drift.{reading}
 use Rattle.nbt_world.specs.Safety.{held_by}
 use Rattle.nbt_world.specs.World.{WorldValue, addr_of}
-use Rattle.nbt_net.specs.Wire.{Act, Happening, acts_of}
+use Rattle.nbt_net.specs.Wire.{Act, Happening, Comes, of_no_end, acts_of}
 use Rattle.nbt_net.specs.Servers.{ServerEnd}
 use Rattle.nbt_net.specs.Hosts as hosts
 use Rattle.nbt_net.specs.Hosts.{HostActs, HostLives}
@@ -85,6 +85,29 @@ module _ (first asked : Addr) where
       | inr off ↦ off ∙ sym apart
     ]
   ]
+
+-- What may come from the first may come from each, and all but the two are as they are.
+pub comes_from_each : (wire : WorldValue) (asked from to : Addr) (octets : List ℕ) → IsServers wire.ends asked → IsServers wire.ends from → Comes wire wire.ends.server_addr to octets → Comes wire (as_first wire.ends.server_addr asked from) to octets
+comes_from_each wire asked from to octets servers own comes = elim (cases_Bool (same_end from asked)) [
+  | inl is ↦ subst (λ (a : Addr). Comes wire a to octets) (sym (in_asked first asked from is)) comes
+  | inr off ↦ elim (cases_Bool (same_end from first)) [
+    | inl is ↦ subst (λ (a : Addr). Comes wire a to octets) (sym (in_first first asked from off is)) (from_own asked servers)
+    | inr other ↦ subst (λ (a : Addr). Comes wire a to octets) (sym (in_other first asked from off other)) (from_own from own)
+  ]
+]
+  where
+    first : Addr
+    first = wire.ends.server_addr
+
+    from_own : (a : Addr) → IsServers wire.ends a → Comes wire a to octets
+    from_own a (inl is) = subst (λ (x : Addr). Comes wire x to octets) (sym is) comes
+    from_own a (inr none) = of_no_end none
+
+apart : (a b : Addr) → a.ip ≢ b.ip → same_end a b ≡ false
+apart a b ne = rw (ne_eqb a.ip b.ip ne) refl
+
+pub rest_stay : (first asked addr : Addr) → addr.ip ≢ asked.ip → addr.ip ≢ first.ip → as_first first asked addr ≡ addr
+rest_stay first asked addr ne differs = in_other first asked addr (apart addr asked ne) (apart addr first differs)
 
 -- acts, read twice
 module _ (first asked : Addr) where

@@ -1,7 +1,7 @@
 //! A network of the programs' own acts leads to a world; and what a server is after a crash and a start, and what its clock reads: each
 //! law is the contract of a function that does nothing.
 
-ghost use Rattle.std.specs.Prelude.{◌≡◌, ℕ, ◌+◌, ◌≤◌, ◌↔◌, Bool, List, [], ◌++◌, Option, Some, None, IsTrue};
+ghost use Rattle.std.specs.Prelude.{◌≡◌, ◌≢◌, ℕ, ◌+◌, ◌≤◌, ◌↔◌, Bool, List, [], ◌++◌, Option, Some, None, IsTrue};
 ghost use Rattle.nbt_name.specs.declared.addr.Addr.{Addr};
 ghost use Rattle.nbt_lease.specs.Config.{ConfigValue};
 ghost use Rattle.nbt_node.specs.Node.{NodeValue};
@@ -22,7 +22,7 @@ ghost use Rattle.nbt_world.specs.Shifted.{shifted_server_end};
 ghost use Rattle.nbt_world.specs.Step.{Resumes};
 ghost use Rattle.nbt_world.specs.World.{WorldValue, AreAddrs, with_server};
 ghost use Rattle.nbt_world.specs.declared.ends.Ends.{Ends};
-ghost use Rattle.nbt_net.specs.Addresses.{IsAsWithOne, IsAsWithSeveral, IsServers, NetworkOfSeveralAddresses};
+ghost use Rattle.nbt_net.specs.Addresses.{IsAsWithOne, IsAsWithSeveral, IsServers, NetworkOfSeveralAddresses, as_first};
 ghost use Rattle.nbt_net.specs.Again.{FirstStart, NextStart, StartBeginsARun};
 ghost use Rattle.nbt_net.specs.Clocks.{counted, place_reads};
 ghost use Rattle.nbt_net.specs.Devices.{Call, Story, no_story, AreActs, IsCutAt};
@@ -37,7 +37,7 @@ ghost use Rattle.nbt_net.specs.Restarts.{HostsLiveLater, LivesLater, RestartGoes
 ghost use Rattle.nbt_net.specs.Servers.{ServerEnd, ServerLives, with_rows};
 ghost use Rattle.nbt_net.specs.Starts.{StartResumesAnEarlierServer};
 ghost use Rattle.nbt_net.specs.Turns.{BrokenTurnsAreLived, CrashCutsALifeShort, HostTurnsAreLived, HostsLiveOn, ServerRunsAreLived, ServerTurnsAreLived};
-ghost use Rattle.nbt_net.specs.Wire.{Happening};
+ghost use Rattle.nbt_net.specs.Wire.{Comes, Happening};
 ghost use Rattle.nbt_net.specs.BareWorking.{Bare, BareStarts, BareWorkIsLived, IsBareAtWork};
 ghost use Rattle.nbt_net.specs.Working.{HasWorked, HaveAnyPair, PutsFront, WorkIsLived};
 
@@ -205,7 +205,8 @@ pub fn lives_are_safe()
 
 /// A server may have several addresses of its own, of which each host asks one in each of its lives. Such a network is one in which all hosts ask the first (`one`). So
 /// no two hosts hold one name in it, unless both as a group, at any time up to which the clocks were timely (`timely`), or kept the drift bound (`kept`).
-/// Nor is that of nothing: each network is one in which the hosts ask any such addresses, and hold the same names (`several`).
+/// Nor is that of nothing: each network is one in which the hosts ask any such addresses, and hold the same names (`several`). What may come to a host from the
+/// first address may come to it from each (`comes`), however the wire has that one; and it has all addresses but the server's as they are (`rest`).
 pub fn a_server_may_have_several_addresses()
     ensures one { (config : ConfigValue) (addrs : List Addr) (happenings : List Happening) (now : WorldValue) (server : ServerEnd) (hosts : ℕ → Option NodeValue)
         → NetworkOfSeveralAddresses config addrs happenings now server hosts → IsAsWithOne config addrs happenings now server hosts }
@@ -215,6 +216,8 @@ pub fn a_server_may_have_several_addresses()
         → AreAddrs addrs → NetworkOfSeveralAddresses config addrs happenings now server hosts → IsTrue now.kept → NoTwoHold now hosts }
     ensures several { (config : ConfigValue) (addrs : List Addr) (happenings : List Happening) (now : WorldValue) (server : ServerEnd) (hosts : ℕ → Option NodeValue)
         → (net : Network config addrs happenings now server hosts) → (asked : ℕ → Addr) → ((index : ℕ) → IsServers net.first.ends (asked index)) → IsAsWithSeveral config addrs asked happenings now server hosts }
+    ensures comes { (wire : WorldValue) (asked from to : Addr) (octets : List ℕ) → IsServers wire.ends asked → IsServers wire.ends from → Comes wire wire.ends.server_addr to octets → Comes wire (as_first wire.ends.server_addr asked from) to octets }
+    ensures rest { (first asked addr : Addr) → addr.ip ≢ asked.ip → addr.ip ≢ first.ip → as_first first asked addr ≡ addr }
 {
     lives_are_safe();
 }

@@ -1,4 +1,4 @@
-use Rattle.nbt_net.proofs.Addressed.{as_with_one, none_hold, as_with_several}
+use Rattle.nbt_net.proofs.Addressed.{as_with_one, none_hold, as_with_several, comes_from_each, rest_stay}
 use Rattle.nbt_net.proofs.laws.a_server_may_have_several_addresses.Goals as goal
 
 pub returns-clause-one : goal.returns-clause-one
@@ -14,3 +14,9 @@ returns-clause-kept c = λ config addrs happenings now server hosts are net kept
 
 pub returns-clause-several : goal.returns-clause-several
 returns-clause-several c = λ config addrs happenings now server hosts net asked servers. as_with_several net asked servers
+
+pub returns-clause-comes : goal.returns-clause-comes
+returns-clause-comes c = comes_from_each
+
+pub returns-clause-rest : goal.returns-clause-rest
+returns-clause-rest c = rest_stay
