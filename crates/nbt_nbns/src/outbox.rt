@@ -1,9 +1,9 @@
 //! Lines that wait for the reader of a log.
 
-ghost use Rattle.std.specs.Prelude.{◌≡◌, ◌≤◌, ◌↔◌, ◌++◌, [], length, take, OnOk, IsTrue};
+ghost use Rattle.std.specs.Prelude.{◌≡◌, ◌≤◌, ◌↔◌, ◌++◌, [], length, take, OnOk, OnErr, IsTrue};
 ghost use Rattle.std.specs.String.{string_bytes};
 ghost use Rattle.std.specs.Io.KnownBytes.{Appends, Keeps, append_known};
-ghost use Rattle.nbt_nbns.specs.Outboxes.{new_outbox, Sends, note};
+ghost use Rattle.nbt_nbns.specs.Outboxes.{new_outbox, one_dropped, Sends, SendsOrDrops, note};
 
 use std::alloc::{AllocError, Global};
 use std::io;
@@ -70,34 +70,61 @@ impl Outbox {
 
     /// Hands a line to the writer, behind what waits, with a note of how many lines were dropped before it, if some were. Where something
     /// still waits, the line is dropped, and counted. Of an empty line only what waits is handed on. Refused where the writer fails, or
-    /// it is out of memory.
+    /// it is out of memory: then too the line is written, or waits, or is dropped and counted.
     pub fn send<W: Write>(&mut self, line: &str, writer: &mut W) -> io::Result<()>
-        ensures { OnOk result (Sends self.old line.now (W.contents writer.old) self.new (W.contents writer.new)) }
+        ensures sent { OnOk result (Sends self.old line.now (W.contents writer.old) self.new (W.contents writer.new)) }
+        ensures refused { OnErr result (SendsOrDrops self.old line.now (W.contents writer.old) self.new (W.contents writer.new)) }
     {
         if line.is_empty() {
             return self.push_out(writer);
         }
         let pushed = self.push_out(writer);
         if !self.is_empty() {
-            self.dropped = self.dropped.saturating_add(1);
+            self.drop_line();
             return pushed;
         }
-        pushed?;
+        if let Err(error) = pushed {
+            self.drop_line();
+            return Err(error);
+        }
         self.fill(line)?;
         self.push_out(writer)
     }
 
-    /// Puts a line where nothing waits, with the note.
+    /// Counts a line that is dropped.
+    pub fn drop_line(&mut self)
+        ensures { self.new ≡ record self.old { dropped = one_dropped self.old.dropped } }
+    {
+        self.dropped = self.dropped.saturating_add(1);
+    }
+
+    /// Puts a line where nothing waits, with the note. Where memory is refused, nothing waits, and the line is dropped and counted.
     fn fill(&mut self, line: &str) -> Result<(), AllocError>
-        ensures { OnOk result (self.new ≡ record { waiting = note self.old.dropped ++ line.now; dropped = 0 }) }
+        ensures filled { OnOk result (self.new ≡ record { waiting = note self.old.dropped ++ line.now; dropped = 0 }) }
+        ensures refused { OnErr result (self.new ≡ record { waiting = []; dropped = one_dropped self.old.dropped }) }
     {
         self.text.clear();
         self.start = 0;
-        write_note(self.dropped, &mut self.text)?;
-        self.text.push_str(line)?;
-        self.dropped = 0;
-        Ok(())
+        match write_noted(self.dropped, line, &mut self.text) {
+            Ok(()) => {
+                self.dropped = 0;
+                Ok(())
+            }
+            Err(error) => {
+                self.text.clear();
+                self.drop_line();
+                Err(error)
+            }
+        }
     }
+}
+
+/// Appends a line behind the note of how many were dropped.
+fn write_noted(dropped: u64, line: &str, out: &mut String) -> Result<(), AllocError>
+    ensures { OnOk result (string_bytes out.new ≡ string_bytes out.old ++ (note dropped ++ line.now)) }
+{
+    write_note(dropped, out)?;
+    out.push_str(line)
 }
 
 /// Appends how many lines were dropped, if some were.
