@@ -8,18 +8,18 @@ use Rattle.nbt_log.specs.Drafts.{ListingValue, leases, hosts}
 use Rattle.nbt_log.specs.Tallies.{counted}
 use Rattle.nbt_nbns.specs.Keeping.{KeeperValue, Keeps}
 use Rattle.nbt_nbns.specs.Listers.{ListerValue, ListsOn}
-use Rattle.nbt_nbns.specs.Logging.{LoggerValue, Prints}
+use Rattle.nbt_nbns.specs.Logging.{LoggerValue, Prints, PrintsOrDrops}
 use Rattle.nbt_nbns.specs.Reports.{SaysStats}
 use Rattle.nbt_nbns.specs.declared.journal.Journal.{Journal}
 use Rattle.nbt_nbns.specs.declared.keeper.Kept.{Kept}
 use Rattle.nbt_nbns.specs.declared.staying.Shown.{Shown}
 
 -- Where there is a log, it has the line of what is shown now, if that is printed. Where memory was refused, or the log can't be
--- written, some of it may be missing.
+-- written, that line may be dropped, and then it is counted.
 pub data LogsIn (dates : Dates) (shown : Shown) (old_text : Option (List ℕ)) : (old new : Option LoggerValue) → (text : Option (List ℕ)) → Type 0 where
   no_log : LogsIn dates shown old_text None None old_text
   logged : (old new : LoggerValue) (text : Option (List ℕ)) → Prints old dates shown.at shown.entry old_text new text → LogsIn dates shown old_text (Some old) (Some new) text
-  not_logged : (old new : LoggerValue) (text : Option (List ℕ)) → LogsIn dates shown old_text (Some old) (Some new) text
+  was_refused : (old new : LoggerValue) (text : Option (List ℕ)) → PrintsOrDrops old dates shown.at shown.entry old_text new text → LogsIn dates shown old_text (Some old) (Some new) text
 
 -- Where a text is kept, of which `IsText` says what it is, it is looked at.
 pub data KeepsIn {L : Type 0} (puts : L → List ℕ → L → Type 0) (IsText : List ℕ → Type 0) (now : ℕ) : (old new : Option (KeeperValue L)) → Type 0 where

@@ -1,8 +1,8 @@
 //! The log of a name server.
 
-ghost use Rattle.std.specs.Prelude.{◌≡◌, [], ◌++◌, ℕ, List, IsTrue, OnOk};
+ghost use Rattle.std.specs.Prelude.{◌≡◌, [], ◌++◌, ℕ, List, IsTrue, IsFalse, OnOk, OnErr};
 ghost use Rattle.std.specs.String.{string_bytes};
-ghost use Rattle.nbt_nbns.specs.Logging.{Logs, Prints, new_logger};
+ghost use Rattle.nbt_nbns.specs.Logging.{IsUnmade, Logs, Prints, PrintsOrDrops, new_logger};
 
 use crate::complaint::Complaint;
 use crate::outbox::Outbox;
@@ -57,7 +57,8 @@ impl Logger {
     /// Prints the line of what a server did with a datagram, at once, where it may be printed, and what waits of the lines before it. Of
     /// a turn that has no line it prints how many of a kind were left out, if a line of that kind may be printed. Where the reader of the
     /// log is slow, a line waits or is dropped, as [`Outbox::send`] says. Returns whether that was done: not where it was out of memory
-    /// or the log can't be written, which is said in `errors`, the first time of a row, as is that it can be written again.
+    /// or the log can't be written, which is said in `errors`, the first time of a row, as is that it can be written again. Then too the
+    /// line is written, or waits, or is dropped and counted.
     pub fn log<W: Write, E: Write>(
         &mut self,
         dates: &Dates,
@@ -65,7 +66,8 @@ impl Logger {
         writer: &mut W,
         errors: &mut E,
     ) -> bool
-        ensures { IsTrue result → Prints self.old dates.now shown.now.at shown.now.entry (W.contents writer.old) self.new (W.contents writer.new) }
+        ensures printed { IsTrue result → Prints self.old dates.now shown.now.at shown.now.entry (W.contents writer.old) self.new (W.contents writer.new) }
+        ensures refused { IsFalse result → PrintsOrDrops self.old dates.now shown.now.at shown.now.entry (W.contents writer.old) self.new (W.contents writer.new) }
     {
         match self.print_line(dates, shown, writer) {
             Ok(()) => {
@@ -81,23 +83,28 @@ impl Logger {
         }
     }
 
-    /// Prints the line, where it may be printed.
+    /// Prints the line, where it may be printed. One for which memory is refused is dropped.
     fn print_line<W: Write>(
         &mut self,
         dates: &Dates,
         shown: &Shown,
         writer: &mut W,
     ) -> io::Result<()>
-        ensures { OnOk result (Prints self.old dates.now shown.now.at shown.now.entry (W.contents writer.old) self.new (W.contents writer.new)) }
+        ensures printed { OnOk result (Prints self.old dates.now shown.now.at shown.now.entry (W.contents writer.old) self.new (W.contents writer.new)) }
+        ensures refused { OnErr result (PrintsOrDrops self.old dates.now shown.now.at shown.now.entry (W.contents writer.old) self.new (W.contents writer.new)) }
     {
         self.line.clear();
-        write_limited(
+        let made = write_limited(
             &mut self.limiters,
             self.broadcasts,
             dates,
             shown,
             &mut self.line,
-        )?;
+        );
+        if let Err(error) = made {
+            self.outbox.drop_line();
+            return Err(io::Error::from(error));
+        }
         self.outbox.send(self.line.as_str(), writer)
     }
 }
@@ -111,7 +118,8 @@ fn write_limited(
     shown: &Shown,
     out: &mut String,
 ) -> Result<(), AllocError>
-    ensures { OnOk result ((line : List ℕ) × Logs broadcasts limiters.old dates.now shown.now.at shown.now.entry line limiters.new × (string_bytes out.new ≡ string_bytes out.old ++ line)) }
+    ensures made { OnOk result ((line : List ℕ) × Logs broadcasts limiters.old dates.now shown.now.at shown.now.entry line limiters.new × (string_bytes out.new ≡ string_bytes out.old ++ line)) }
+    ensures unmade { OnErr result (IsUnmade broadcasts limiters.old shown.now.at shown.now.entry limiters.new) }
 {
     let Some(entry) = &shown.entry else {
         return write_summary(limiters, dates, shown.at, out);
