@@ -12,7 +12,7 @@ mod Watching
 mod Overall
 -- what is said after any events
 mod Saying
--- what is printed, if no line is refused
+-- what is printed of the lines of a log
 mod Printing
 -- how old a list is
 mod Aging

@@ -3,7 +3,7 @@
 ghost use Rattle.nbt_whole.specs.Aging.{WhatIsListedIsRecent};
 ghost use Rattle.nbt_whole.specs.Nbns.{NbnsAreLived, FailedNbnsAreLived, KeptAreLived, FailedKeptAreLived};
 ghost use Rattle.nbt_whole.specs.Watched.{NbnsAreWatched, FailedNbnsAreWatched, KeptAreWatched, FailedKeptAreWatched};
-ghost use Rattle.nbt_whole.specs.Printed.{WhatIsNotRefusedIsPrinted};
+ghost use Rattle.nbt_whole.specs.Printed.{EachLineIsPrintedOrCounted};
 ghost use Rattle.nbt_whole.specs.Said.{WhatIsWatchedIsSaid, RunsBeginNew};
 
 /// What the contract of [`nbt_nbns::run_nbns`] says of a server without a state is a life of it, from its first call to its last: until its time is over
@@ -41,11 +41,11 @@ pub fn what_is_watched_is_said()
     ensures said { WhatIsWatchedIsSaid }
 {}
 
-/// As long as no line of a log was refused, since memory was out or the log couldn't be written, what was written of the log and what waits for its reader, taken together,
-/// grew by its lines alone, one for each entry that was shown, in their order: each is printed, or it is dropped, and the next one that is printed has a note of how many were. The
-/// statistics count those that were dropped.
-pub fn what_is_not_refused_is_printed()
-    ensures { WhatIsNotRefusedIsPrinted }
+/// What was written of a log and what waits for its reader, taken together, grew by its lines alone, one for each showing, in their order: each is printed, or it is dropped,
+/// and the next one that is printed has a note of how many were. The statistics count those that were dropped. So it is too where memory was refused, and where the log couldn't be
+/// written. Where memory was refused as a line was made, that line is dropped; what it would have been isn't said.
+pub fn each_line_is_printed_or_counted()
+    ensures { EachLineIsPrintedOrCounted }
 {}
 
 /// As long as no look at the list of leases fails, a showing is at most `gap` milliseconds after the one before, and the server has at most `most` rows, the text that the
