@@ -17,6 +17,7 @@ mod following;
 mod full;
 mod keeping;
 mod locks;
+mod logging;
 mod older;
 mod order;
 mod outlasting;
