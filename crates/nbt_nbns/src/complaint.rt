@@ -1,9 +1,11 @@
 //! What can't be written, and what can be written again.
 
+ghost use Rattle.std.specs.Prelude.{◌≡◌, IsTrue, IsFalse};
+
 use std::io;
 use std::io::Write;
 
-/// Says why something can't be written, at the first failure of a row, and when the row is over.
+/// Says why something can't be written, at the first failure of a row alone, and when the row is over.
 #[derive(Debug, Drop)]
 pub(crate) struct Complaint {
     is_told: bool,
@@ -11,20 +13,29 @@ pub(crate) struct Complaint {
 
 impl Complaint {
     /// Nothing has failed yet.
-    pub fn new() -> Complaint {
+    pub fn new() -> Complaint
+        ensures { IsFalse result.is_told }
+    {
         Complaint { is_told: false }
     }
 
-    /// It was written: the row is over. If there was one, a line in `errors` says so. A failure to write to `errors` is ignored.
-    pub fn end<E: Write>(&mut self, what: &str, errors: &mut E) {
+    /// It was written: the row is over. If there was one, a line in `errors` says so, else nothing does. A failure to write to `errors` is
+    /// ignored.
+    pub fn end<E: Write>(&mut self, what: &str, errors: &mut E)
+        ensures over { IsFalse self.new.is_told }
+        ensures silent { IsFalse self.old.is_told → errors.new ≡ errors.old }
+    {
         if self.is_told {
             let _ = write_end(what, errors);
         }
         self.is_told = false;
     }
 
-    /// It failed: says so as [`complain`] does, if it is the first of the row.
-    pub fn tell<E: Write>(&mut self, what: &str, error: io::Error, errors: &mut E) {
+    /// It failed: says so as [`complain`] does, if it is the first of the row, and nothing if it isn't.
+    pub fn tell<E: Write>(&mut self, what: &str, error: io::Error, errors: &mut E)
+        ensures told { IsTrue self.new.is_told }
+        ensures once { IsTrue self.old.is_told → errors.new ≡ errors.old }
+    {
         if !self.is_told {
             complain(what, error, errors);
         }
