@@ -18,7 +18,7 @@ use Rattle.nbt_net.specs.Hosts.{HostLives}
 use Rattle.nbt_net.specs.Reaching.{Reaches}
 
 -- From a wire on which nothing happened yet all this happened, up to now. The server did what it did by its own life, and so did each
--- host; that is what the server is now, and these are the nodes of the hosts that are up.
+-- host; that is what the server is now, and these are the nodes of the hosts that are up, at places where there is a host.
 pub record Network (config : ConfigValue) (addrs : List Addr) (happenings : List Happening) (now : WorldValue) (server : ServerEnd) (hosts : ℕ → Option NodeValue) : Type 0 where
   pub first : WorldValue
   pub fresh : IsFresh config addrs first
@@ -36,7 +36,8 @@ abbrev pub NoTwoHold : WorldValue → (hosts : ℕ → Option NodeValue) → Typ
 NoTwoHold now hosts = (name : NameValue) (i j : ℕ) (at to : Addr) (k l : Kind) → i ≢ j → addr_of now.ends (suc i) ≡ Some at → addr_of now.ends (suc j) ≡ Some to
     → holds_now now hosts i name ≡ Some k → holds_now now hosts j name ≡ Some l → (k ≡ Group) × (l ≡ Group)
 
--- The network is a run of a world, from its first wire: the world's nodes are the hosts', and it has the wire's clocks.
+-- From the network's first wire a world can be reached that has the wire's clocks and addresses, and the hosts as its nodes. Of its server
+-- and of what was sent it says nothing.
 pub record NetworkIsARun (first now : WorldValue) (hosts : ℕ → Option NodeValue) : Type 0 where
   pub ends : Ends
   pub sent : List Datagram

@@ -35,7 +35,7 @@ pub data Reaches : WorldValue → WorldValue → Type 0 where
   stays : (world : WorldValue) → Reaches world world
   goes_on : (old mid new : WorldValue) → Reaches old mid → Goes mid new → Reaches old new
 
--- ---- an act of an end is a run of the world
+-- ---- an act of an end leads the world on
 
 abbrev pub with_end : Ends → ServerEnd → Ends
 with_end ends server = with_server ends (up_of server) (was_of server)

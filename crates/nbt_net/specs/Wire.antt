@@ -1,5 +1,6 @@
 -- The network between programs: what happens in it, in the order of the true clock, and what comes to whom (our profile). A wire is a
--- world's value: its clocks, the addresses of its ends, and all that they ever sent. What its ends know stands elsewhere.
+-- world's value: its clocks and whether they were timely, the addresses of its ends, and all that they ever sent. What its ends know stands
+-- elsewhere.
 use Rattle.std.specs.Prelude.{◌≡◌, ℕ, nat_eq, ⊤, if◌then◌else◌, List, [], ◌∷◌, ◌++◌, slice_index, Some, Contains}
 use Rattle.std.specs.List.{flat_map, AllByRecursion}
 use Rattle.nbt_name.specs.declared.addr.Addr.{Addr}
@@ -41,8 +42,9 @@ sent_by at moment (nothing_came ∷ calls) = sent_by at moment calls
 sent_by at moment (came from octets ∷ calls) = sent_by at moment calls
 sent_by at moment (receive_failed ∷ calls) = sent_by at moment calls
 
--- Octets may come from an address to an end at another: an end sent them from there, to there, no longer than a life ago by the true clock;
--- or the address is no end's; or another program sends them, and they move no name.
+-- Octets may come from an address to an end at another: they are of an act of the end there, and no longer than a life passed, by the true
+-- clock, from the reading of that act to the reading at which they are handled, however late they left; or the address is no end's; or they
+-- move no name, whoever sends them.
 pub data Comes (wire : WorldValue) (from to : Addr) (octets : List ℕ) : Type 0 where
   of_an_end : (d : Datagram) → Contains wire.sent d → d.from ≡ from → d.to ≡ to → d.octets.items ≡ octets → IsDeliverable wire.config.life wire.now.clock d.moment.clock → Comes wire from to octets
   of_no_end : ¬ IsOfEnd wire.ends from.ip → Comes wire from to octets
