@@ -22,14 +22,14 @@ pub data LogsIn (dates : Dates) (shown : Shown) (old_text : Option (List ℕ)) :
   was_refused : (old new : LoggerValue) (text : Option (List ℕ)) → PrintsOrDrops old dates shown.at shown.entry old_text new text → LogsIn dates shown old_text (Some old) (Some new) text
 
 -- Where a text is kept, of which `IsText` says what it is, it is looked at.
-pub data KeepsIn {L : Type 0} (puts : L → List ℕ → L → Type 0) (IsText : List ℕ → Type 0) (now : ℕ) : (old new : Option (KeeperValue L)) → Type 0 where
-  not_kept : KeepsIn puts IsText now None None
-  looked : (old : KeeperValue L) (kept : Kept) (new : KeeperValue L) → Keeps puts IsText now old kept new → KeepsIn puts IsText now (Some old) (Some new)
+pub data KeepsIn {L : Type 0} (puts refuses : L → List ℕ → L → Type 0) (IsText : List ℕ → Type 0) (now : ℕ) : (old new : Option (KeeperValue L)) → Type 0 where
+  not_kept : KeepsIn puts refuses IsText now None None
+  looked : (old : KeeperValue L) (kept : Kept) (new : KeeperValue L) → Keeps puts refuses IsText now old kept new → KeepsIn puts refuses IsText now (Some old) (Some new)
 
 -- Where a listing of these rows is kept, they are looked at.
-pub data ListsIn {L : Type 0} (puts : L → List ℕ → L → Type 0) (listing : ListingValue) (rows : Rows) (now : ℕ) : (old new : Option (ListerValue L)) → Type 0 where
-  not_listed : ListsIn puts listing rows now None None
-  listed : (old : ListerValue L) (kept : Kept) (new : ListerValue L) → ListsOn puts listing rows now old kept new → ListsIn puts listing rows now (Some old) (Some new)
+pub data ListsIn {L : Type 0} (puts refuses : L → List ℕ → L → Type 0) (listing : ListingValue) (rows : Rows) (now : ℕ) : (old new : Option (ListerValue L)) → Type 0 where
+  not_listed : ListsIn puts refuses listing rows now None None
+  listed : (old : ListerValue L) (kept : Kept) (new : ListerValue L) → ListsOn puts refuses listing rows now old kept new → ListsIn puts refuses listing rows now (Some old) (Some new)
 
 -- how many lines a log dropped of which no note tells yet
 abbrev pub dropped_of : Option LoggerValue → ℕ
@@ -43,13 +43,13 @@ pub data FollowsDay {D : Type 0} (tells : D → ℕ → D → Type 0) (at : ℕ)
 
 -- Moments are dated by the time of day. The turn is logged and counted, with the lines that the log dropped in it, and then
 -- the list of leases, the hosts and the statistics are kept.
-pub record Journals {D L : Type 0} (tells : D → ℕ → D → Type 0) (puts : L → List ℕ → L → Type 0)
+pub record Journals {D L : Type 0} (tells : D → ℕ → D → Type 0) (puts refuses : L → List ℕ → L → Type 0)
     (old : Journal D L) (server : ServerValue) (shown : Shown) (old_text : Option (List ℕ)) (new : Journal D L) (text : Option (List ℕ)) : Type 0 where
   pub day_followed : FollowsDay tells shown.at old.day old.dates old.day_read new.day new.dates new.day_read
   pub logs : LogsIn new.dates shown old_text old.log new.log text
   pub tally_is : new.tally ≡ counted shown.entry (dropped_of new.log - dropped_of old.log) old.tally
   pub origin_is : new.origin ≡ old.origin
-  pub leases_kept : ListsIn puts (leases new.dates) server.table.rows shown.at old.leases new.leases
+  pub leases_kept : ListsIn puts refuses (leases new.dates) server.table.rows shown.at old.leases new.leases
   pub fixed_are : new.fixed ≡ old.fixed
-  pub hosts_kept : ListsIn puts (hosts new.fixed) server.table.rows shown.at old.hosts new.hosts
-  pub stats_kept : KeepsIn puts (SaysStats (record { tally = new.tally; health = shown.health; origin = new.origin }) server new.dates shown.at) shown.at old.stats new.stats
+  pub hosts_kept : ListsIn puts refuses (hosts new.fixed) server.table.rows shown.at old.hosts new.hosts
+  pub stats_kept : KeepsIn puts refuses (SaysStats (record { tally = new.tally; health = shown.health; origin = new.origin }) server new.dates shown.at) shown.at old.stats new.stats

@@ -32,13 +32,15 @@ next_draft None listing rows now = one_part_more (new_draft listing now rows)
 next_draft (Some draft) listing rows now = one_part_more draft
 
 -- A look, where a listing of these rows is to be kept: not before it is due. One part more of a list is made. Once that is whole, the place is given its
--- text where it has another one. A list that failed is lost.
-pub data ListsOn {L : Type 0} (puts : L → List ℕ → L → Type 0) (listing : ListingValue) (rows : Rows) (now : ℕ) (old : ListerValue L) : Kept → ListerValue L → Type 0 where
-  early : ¬ IsLookDue old.looked old.draft now → ListsOn puts listing rows now old k.Early old
+-- text where it has another one, and may refuse it. Where memory was refused, the place and its text stay. A list that failed is lost.
+pub data ListsOn {L : Type 0} (puts refuses : L → List ℕ → L → Type 0) (listing : ListingValue) (rows : Rows) (now : ℕ) (old : ListerValue L) : Kept → ListerValue L → Type 0 where
+  early : ¬ IsLookDue old.looked old.draft now → ListsOn puts refuses listing rows now old k.Early old
   unfinished : IsLookDue old.looked old.draft now → ¬ IsWhole (next_draft old.draft listing rows now)
-      → ListsOn puts listing rows now old k.Unfinished (record old { looked = Some now; draft = Some (next_draft old.draft listing rows now) })
+      → ListsOn puts refuses listing rows now old k.Unfinished (record old { looked = Some now; draft = Some (next_draft old.draft listing rows now) })
   same : (text : List ℕ) → IsLookDue old.looked old.draft now → IsWhole (next_draft old.draft listing rows now) → IsDraftText (next_draft old.draft listing rows now) text → old.text ≡ Some text
-      → ListsOn puts listing rows now old k.Same (record old { looked = Some now; draft = None })
+      → ListsOn puts refuses listing rows now old k.Same (record old { looked = Some now; draft = None })
   written : (text : List ℕ) (place : L) → IsLookDue old.looked old.draft now → IsWhole (next_draft old.draft listing rows now) → IsDraftText (next_draft old.draft listing rows now) text → old.text ≢ Some text
-      → puts old.place text place → ListsOn puts listing rows now old k.Written (record { looked = Some now; draft = None; text = Some text; place = place })
-  failed : (place : L) → IsLookDue old.looked old.draft now → ListsOn puts listing rows now old k.Failed (record { looked = Some now; draft = None; text = old.text; place = place })
+      → puts old.place text place → ListsOn puts refuses listing rows now old k.Written (record { looked = Some now; draft = None; text = Some text; place = place })
+  no_memory : IsLookDue old.looked old.draft now → ListsOn puts refuses listing rows now old k.Failed (record old { looked = Some now; draft = None })
+  refused : (text : List ℕ) (place : L) → IsLookDue old.looked old.draft now → IsWhole (next_draft old.draft listing rows now) → IsDraftText (next_draft old.draft listing rows now) text → old.text ≢ Some text
+      → refuses old.place text place → ListsOn puts refuses listing rows now old k.Failed (record old { looked = Some now; draft = None; place = place })

@@ -15,6 +15,6 @@ pub record FileValue : Type 0 where
 abbrev pub file_of : Content → (path : List ℕ) → FileValue
 file_of content path = record { content = content; path = path; beside = path ++ codes ".new" }
 
--- Its kind and its paths stay. Which text a file has, no contract can say.
-abbrev pub Stays : FileValue → List ℕ → FileValue → Type 0
+-- The place is as before. So is a file that took a text, or refused it: its kind and its paths stay. Which text a file has, no contract can say.
+abbrev pub Stays : {L : Type 0} → (old : L) → List ℕ → (new : L) → Type 0
 Stays old text new = new ≡ old

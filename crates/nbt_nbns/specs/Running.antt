@@ -97,14 +97,14 @@ module _ {C : Type 0} (tells : C → ℕ → C → Type 0) (strict : Bool) (unti
   -- It stays up for good, or until its time is over.
   abbrev pub KeepsUntil : Nbns C → Nbns C → Type 0
   KeepsUntil old new =
-      StaysUntil (RenewsOn (PortDoes strict) PortFailures RenewsPort FolderDoes tells MachineTells (Journals MachineTells Stays) NotesNames until) (BreaksStaying (PortDoes strict) FolderDoes tells fault.Port)
-      (WatchesLast (PortDoes strict) PortFailures FolderDoes tells MachineTells (Journals MachineTells Stays) until) forever old new
+      StaysUntil (RenewsOn (PortDoes strict) PortFailures RenewsPort FolderDoes tells MachineTells (Journals MachineTells Stays Stays) NotesNames until) (BreaksStaying (PortDoes strict) FolderDoes tells fault.Port)
+      (WatchesLast (PortDoes strict) PortFailures FolderDoes tells MachineTells (Journals MachineTells Stays Stays) until) forever old new
 
   -- It ends before that: for the device it gives up, and the folder's failure cuts it off.
   abbrev pub KeepsNot : Fault → Nbns C → Nbns C → Type 0
   KeepsNot why old new =
-      EndsEarly (RenewsOn (PortDoes strict) PortFailures RenewsPort FolderDoes tells MachineTells (Journals MachineTells Stays) NotesNames until) (BreaksStaying (PortDoes strict) FolderDoes tells fault.Port)
-      (CutsStaying (PortDoes strict) PortFailures FolderDoes tells MachineTells (Journals MachineTells Stays)) forever why old new
+      EndsEarly (RenewsOn (PortDoes strict) PortFailures RenewsPort FolderDoes tells MachineTells (Journals MachineTells Stays Stays) NotesNames until) (BreaksStaying (PortDoes strict) FolderDoes tells fault.Port)
+      (CutsStaying (PortDoes strict) PortFailures FolderDoes tells MachineTells (Journals MachineTells Stays Stays)) forever why old new
 
 -- A server begins so, and is at first what `starts` says: the first line says how it begins, and it goes on from there.
 pub record Begins {C : Type 0} (starts : Manner → Nbns C → Type 0) (goes : Nbns C → Nbns C → Type 0) (old_text text : Option (List ℕ)) : Type 0 where

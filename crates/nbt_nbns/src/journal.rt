@@ -46,7 +46,7 @@ pub struct Journal<D, L> {
 impl<D: Clock, L: Place> Watcher for Journal<D, L> {
     ghost use Rattle.nbt_nbns.specs.Journaling.{Journals};
 
-    ghost sees = { Journals D.tells L.puts };
+    ghost sees = { Journals D.tells L.puts L.refuses };
 
     fn see<W: Write, E: Write>(
         &mut self,
@@ -121,7 +121,7 @@ fn list_in<L: Place, E: Write>(
     now: Moment,
     errors: &mut E,
 )
-    ensures { ListsIn L.puts (listing_of listing.now) server.now.table.rows now kept.old kept.new }
+    ensures { ListsIn L.puts L.refuses (listing_of listing.now) server.now.table.rows now kept.old kept.new }
 {
     if let Some(lister) = kept {
         lister.keep(listing, server, now, errors);
@@ -138,7 +138,7 @@ fn keep_stats<L: Place, E: Write>(
     shown: &Shown,
     errors: &mut E,
 )
-    ensures { KeepsIn L.puts (SaysStats (record { tally = tally.now; health = shown.now.health; origin = origin }) server.now dates shown.now.at) shown.now.at kept.old kept.new }
+    ensures { KeepsIn L.puts L.refuses (SaysStats (record { tally = tally.now; health = shown.now.health; origin = origin }) server.now dates shown.now.at) shown.now.at kept.old kept.new }
 {
     if let Some(keeper) = kept {
         let stats = StatsReport {

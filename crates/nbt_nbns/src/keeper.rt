@@ -85,7 +85,7 @@ impl<L: Place> Keeper<L> {
         now: Moment,
         errors: &mut E,
     ) -> Kept
-        ensures { Keeps L.puts (T.says report.now server.now dates.now now) now self.old result self.new }
+        ensures { Keeps L.puts L.refuses (T.says report.now server.now dates.now now) now self.old result self.new }
     {
         if !is_due(self.looked, now) {
             return Kept::Early;
@@ -111,8 +111,8 @@ impl<L: Place> Keeper<L> {
         now: Moment,
     ) -> io::Result<Kept>
         requires due { IsDue self.old.looked now }
-        ensures { MatchResult result (λ kept. Keeps L.puts (T.says report.now server.now dates.now now) now self.old kept self.new)
-            (λ error. Keeps L.puts (T.says report.now server.now dates.now now) now self.old Kept.Failed self.new) }
+        ensures { MatchResult result (λ kept. Keeps L.puts L.refuses (T.says report.now server.now dates.now now) now self.old kept self.new)
+            (λ error. Keeps L.puts L.refuses (T.says report.now server.now dates.now now) now self.old Kept.Failed self.new) }
     {
         self.looked = Some(now);
         let text = reported(self.alloc, report, server, dates, now)?;

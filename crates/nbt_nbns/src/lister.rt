@@ -77,7 +77,7 @@ impl<L: Place> Lister<L> {
         now: Moment,
         errors: &mut E,
     ) -> Kept
-        ensures { ListsOn L.puts (listing_of listing.now) server.now.table.rows now self.old result self.new }
+        ensures { ListsOn L.puts L.refuses (listing_of listing.now) server.now.table.rows now self.old result self.new }
     {
         if !is_due(self.looked, &self.draft, now) {
             return Kept::Early;
@@ -98,8 +98,8 @@ impl<L: Place> Lister<L> {
     /// Makes one part of the list, and gives the place the text of a whole one where it has another one.
     fn look(&mut self, listing: &Listing<'_>, server: &Server, now: Moment) -> io::Result<Kept>
         requires due { IsLookDue self.old.looked self.old.draft now }
-        ensures { MatchResult result (λ kept. ListsOn L.puts (listing_of listing.now) server.now.table.rows now self.old kept self.new)
-            (λ error. ListsOn L.puts (listing_of listing.now) server.now.table.rows now self.old Kept.Failed self.new) }
+        ensures { MatchResult result (λ kept. ListsOn L.puts L.refuses (listing_of listing.now) server.now.table.rows now self.old kept self.new)
+            (λ error. ListsOn L.puts L.refuses (listing_of listing.now) server.now.table.rows now self.old Kept.Failed self.new) }
     {
         self.looked = Some(now);
         let begun = self.draft.take();

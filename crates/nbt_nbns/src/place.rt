@@ -1,6 +1,6 @@
 //! Where a text is kept, as the list of leases.
 
-ghost use Rattle.std.specs.Prelude.{◌≡◌, ℕ, List, [], IfOk, OnOk, map};
+ghost use Rattle.std.specs.Prelude.{◌≡◌, ℕ, List, [], IfOk, OnOk, OnErr, map};
 ghost use Rattle.std.specs.String.{string_bytes};
 ghost use Rattle.nbt_nbns.specs.Places.{file_of};
 
@@ -18,13 +18,17 @@ pub trait Place {
     /// What a replacing is: the place before, the text, and the place afterwards.
     ghost puts: { Self → List ℕ → Self → Type 0 };
 
+    /// What a refusal is: the place before, the text that it refused, and the place afterwards.
+    ghost refuses: { Self → List ℕ → Self → Type 0 };
+
     /// What it is called where it is said that it can't be written.
     fn name(&self) -> &str;
 
     /// Puts this text in place of the one that it has. A reader sees the one or the other, and never a part. Where the place
     /// refuses it, the error says why, and the earlier text stays.
     fn replace(&mut self, text: &str) -> io::Result<()>
-        ensures { OnOk result (puts self.old text.now self.new) };
+        ensures ok { OnOk result (puts self.old text.now self.new) }
+        ensures err { OnErr result (refuses self.old text.now self.new) };
 }
 
 /// A place over memory, which keeps each text that it took. A contract sees them in order.
@@ -72,9 +76,11 @@ impl MemoryPlace {
 }
 
 impl Place for MemoryPlace {
-    ghost use Rattle.nbt_nbns.specs.Places.{Adds};
+    ghost use Rattle.nbt_nbns.specs.Places.{Adds, Stays};
 
     ghost puts = { Adds };
+
+    ghost refuses = { Stays };
 
     fn name(&self) -> &str {
         "the list of leases"
@@ -147,6 +153,8 @@ impl<'a, R: Files> Place for FilePlace<'a, R> {
     ghost use Rattle.nbt_nbns.specs.Places.{Stays};
 
     ghost puts = { Stays };
+
+    ghost refuses = { Stays };
 
     /// The path of the file.
     fn name(&self) -> &str {

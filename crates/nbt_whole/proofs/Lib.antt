@@ -14,5 +14,7 @@ mod Overall
 mod Saying
 -- what is printed of the lines of a log
 mod Printing
--- how old a list is
+-- how many looks a list takes
+mod Parts
+-- how old the lists and the statistics are
 mod Aging

@@ -150,14 +150,15 @@ module _ (first : Watched) where
       old_text : (lister : ListerValue FileValue) → Stands events old lister → IfSome lister.text (λ text. WasOnce (Lists listing text) first (events ++ was_shown shown ∷ []) new)
       old_text lister stands = some_on (Lists listing) events old new (was_shown shown) lister.text saw stands.text
 
-      lists_on : (before : ListerValue FileValue) (kept : Kept) (after : ListerValue FileValue) → ListsOn Stays (listing new) rows shown.at before kept after → Stands events old before → StandsNow after
+      lists_on : (before : ListerValue FileValue) (kept : Kept) (after : ListerValue FileValue) → ListsOn Stays Stays (listing new) rows shown.at before kept after → Stands events old before → StandsNow after
       lists_on before _ _ (list.early due) stands = stands_on events old new (was_shown shown) before saw stands
       lists_on before _ _ (list.unfinished due part) stands = record { draft = draft_now before.draft stands.draft; text = old_text before stands }
       lists_on before _ _ (list.same text due whole says is) stands = record { draft = tt; text = old_text before stands }
       lists_on before _ _ (list.written text place due whole says other put) stands = record { draft = tt; text = text_now before text stands says }
-      lists_on before _ _ (list.failed place due) stands = record { draft = tt; text = old_text before stands }
+      lists_on before _ _ (list.no_memory due) stands = record { draft = tt; text = old_text before stands }
+      lists_on before _ _ (list.refused text place due whole says other refuse) stands = record { draft = tt; text = old_text before stands }
 
-      lists_in : (before after : Option (ListerValue FileValue)) → ListsIn Stays (listing new) rows shown.at before after → IfSome before (Stands events old) → IfSome after StandsNow
+      lists_in : (before after : Option (ListerValue FileValue)) → ListsIn Stays Stays (listing new) rows shown.at before after → IfSome before (Stands events old) → IfSome after StandsNow
       lists_in _ _ not_listed stands = tt
       lists_in _ _ (listed before kept after on) stands = lists_on before kept after on stands
 
@@ -171,13 +172,14 @@ module _ (first : Watched) where
   stats_on events mid new event (Some text) happens once = once_on (ReportsStats text) events mid new event happens once
 
   module _ (events : List Event) (old new : Watched) (shown : Shown) (came : Chain Happens first events old) (saw : Happens old (was_shown shown) new) where
-    keeps_on : (before : KeeperValue FileValue) (kept : Kept) (after : KeeperValue FileValue) → Keeps Stays (λ text. ReportsStats text old shown new) shown.at before kept after → StatsStand events old before → StatsStand (events ++ was_shown shown ∷ []) new after
+    keeps_on : (before : KeeperValue FileValue) (kept : Kept) (after : KeeperValue FileValue) → Keeps Stays Stays (λ text. ReportsStats text old shown new) shown.at before kept after → StatsStand events old before → StatsStand (events ++ was_shown shown ∷ []) new after
     keeps_on before _ _ (keep.early due) stands = stats_on events old new (was_shown shown) before.text saw stands
     keeps_on before _ _ (keep.same text due says is) stands = stats_on events old new (was_shown shown) before.text saw stands
     keeps_on before _ _ (keep.written text place due says other put) stands = once_now (ReportsStats text) events old new shown came saw says
-    keeps_on before _ _ (keep.failed place due) stands = stats_on events old new (was_shown shown) before.text saw stands
+    keeps_on before _ _ (keep.no_memory due) stands = stats_on events old new (was_shown shown) before.text saw stands
+    keeps_on before _ _ (keep.refused text place due says other refuse) stands = stats_on events old new (was_shown shown) before.text saw stands
 
-    keeps_in : (before after : Option (KeeperValue FileValue)) → KeepsIn Stays (λ text. ReportsStats text old shown new) shown.at before after → IfSome before (StatsStand events old) → IfSome after (StatsStand (events ++ was_shown shown ∷ []) new)
+    keeps_in : (before after : Option (KeeperValue FileValue)) → KeepsIn Stays Stays (λ text. ReportsStats text old shown new) shown.at before after → IfSome before (StatsStand events old) → IfSome after (StatsStand (events ++ was_shown shown ∷ []) new)
     keeps_in _ _ not_kept stands = tt
     keeps_in _ _ (looked before kept after on) stands = keeps_on before kept after on stands
 

@@ -121,7 +121,7 @@ abbrev seen_in : ServerValue → Seeing (Journal ℕ FileValue) → Watched
 seen_in server s = record { server = server; journal = s.watcher; text = s.text }
 
 -- the journal is shown them one after the other
-sees_each : (server : ServerValue) (shown : Shown) (entries : List (Option Entry)) (before after : Seeing (Journal ℕ FileValue)) → Chain (SeesOne (Journals MachineTells Stays) server) before (map (λ entry. record shown { entry = entry }) entries) after
+sees_each : (server : ServerValue) (shown : Shown) (entries : List (Option Entry)) (before after : Seeing (Journal ℕ FileValue)) → Chain (SeesOne (Journals MachineTells Stays Stays) server) before (map (λ entry. record shown { entry = entry }) entries) after
     → Chain Happens (record { server = server; journal = before.watcher; text = before.text }) (shown_so shown entries) (record { server = server; journal = after.watcher; text = after.text })
 sees_each server shown [] before after chain = ap (seen_in server) chain
 sees_each server shown (entry ∷ entries) before after chain = (
@@ -177,11 +177,11 @@ then_queued read ahead (Some entry) untold events still in_turn = one_more (nat_
 abbrev pub told_events : (server : ServerValue) → (waiting : WaitingValue) → (sent : Sent) → (shown : Shown) → (untold : List Untold) → List Event
 told_events server waiting sent shown untold = shown_so shown (entries_shown server.table.config.life sent.left waiting.replies (queued untold server.last sent.ahead shown.entry))
 
-pub tells_chain : (server : ServerValue) (waiting : WaitingValue) (sent : Sent) (shown : Shown) (old new : List Untold) (before after : Seeing (Journal ℕ FileValue)) → Tells (Journals MachineTells Stays) server waiting sent shown old before new after
+pub tells_chain : (server : ServerValue) (waiting : WaitingValue) (sent : Sent) (shown : Shown) (old new : List Untold) (before after : Seeing (Journal ℕ FileValue)) → Tells (Journals MachineTells Stays Stays) server waiting sent shown old before new after
     → Chain Happens (record { server = server; journal = before.watcher; text = before.text }) (told_events server waiting sent shown old) (record { server = server; journal = after.watcher; text = after.text })
 tells_chain server waiting sent shown old new before after tell = sees_each server shown _ before after tell.seen
 
-pub tells_in_turn : (server : ServerValue) (waiting : WaitingValue) (sent : Sent) (shown : Shown) (old new : List Untold) (before after : Seeing (Journal ℕ FileValue)) → Tells (Journals MachineTells Stays) server waiting sent shown old before new after
+pub tells_in_turn : (server : ServerValue) (waiting : WaitingValue) (sent : Sent) (shown : Shown) (old new : List Untold) (before after : Seeing (Journal ℕ FileValue)) → Tells (Journals MachineTells Stays Stays) server waiting sent shown old before new after
     → IsToldInTurn (entries_of old) (acted shown.entry ∷ told_events server waiting sent shown old) (entries_of new)
 tells_in_turn server waiting sent shown old new before after tell =
     subst (λ (still : List Untold). IsToldInTurn (entries_of old) (acted shown.entry ∷ told_events server waiting sent shown old) (entries_of still)) (sym tell.untold_is)

@@ -71,7 +71,7 @@ module _ {C : Type 0} (does : Fronted PortsValue → PortCall → Fronted PortsV
   nothing_seen : (old new : Nbns C) → watched_of new ≡ watched_of old → Seen old new
   nothing_seen old new same = record { events = []; happened = same; each_told = refl; in_turn = ([], refl, inl tt) }
 
-  bare_shows : (old new : Nbns C) (shown : Shown) → Shows does failures keeps tells MachineTells (Journals MachineTells Stays) old shown new → BareOver old new
+  bare_shows : (old new : Nbns C) (shown : Shown) → Shows does failures keeps tells MachineTells (Journals MachineTells Stays Stays) old shown new → BareOver old new
   bare_shows old new shown s none =
       let turned = by_none _ _ old.served.state s.turned s.turn none in
       let seen = by_none _ _ s.turned new.served.state s.seen turned.1 in
@@ -85,7 +85,7 @@ module _ {C : Type 0} (does : Fronted PortsValue → PortCall → Fronted PortsV
         seen.1,
       )
 
-  bare_watches : (old new : Nbns C) (shown : Shown) → Watches does failures keeps tells MachineTells (Journals MachineTells Stays) old shown new → BareOver old new
+  bare_watches : (old new : Nbns C) (shown : Shown) → Watches does failures keeps tells MachineTells (Journals MachineTells Stays Stays) old shown new → BareOver old new
   bare_watches old new shown w none =
       let shows = bare_shows old (record new { served = record new.served { state = w.mid } }) shown w.shows none in
       (shows.0, (by_none _ _ w.mid new.served.state w.looks shows.1).1)
@@ -115,7 +115,7 @@ module _ {C : Type 0} (does : Fronted PortsValue → PortCall → Fronted PortsV
   )
   bare_renewed old _ (can_not at clock told) none = (nothing_seen old (record old { served = record old.served { clock = clock } }) refl, none)
 
-  bare_overall : (until : Option ℕ) → IsOverall (RenewsOn does failures RenewsPort keeps tells MachineTells (Journals MachineTells Stays) NotesNames until) (BreaksStaying does keeps tells fault.Port) BareOver
+  bare_overall : (until : Option ℕ) → IsOverall (RenewsOn does failures RenewsPort keeps tells MachineTells (Journals MachineTells Stays Stays) NotesNames until) (BreaksStaying does keeps tells fault.Port) BareOver
   bare_overall until = record {
     none = λ here none. (nothing_seen here here refl, none);
     both = bare_joined;
@@ -123,11 +123,11 @@ module _ {C : Type 0} (does : Fronted PortsValue → PortCall → Fronted PortsV
     of_break = λ old new broke. bare_breaks old new fault.Port broke;
   }
 
-  pub bare_stayed : (until : Option ℕ) (old new : Nbns C) → StaysUntil (RenewsOn does failures RenewsPort keeps tells MachineTells (Journals MachineTells Stays) NotesNames until) (BreaksStaying does keeps tells fault.Port) (WatchesLast does failures keeps tells MachineTells (Journals MachineTells Stays) until) forever old new → BareOver old new
-  bare_stayed until old new stayed = stays_until (RenewsOn does failures RenewsPort keeps tells MachineTells (Journals MachineTells Stays) NotesNames until) (BreaksStaying does keeps tells fault.Port) BareOver (bare_overall until) BareOver (λ old new over. over) (WatchesLast does failures keeps tells MachineTells (Journals MachineTells Stays) until) forever old new
+  pub bare_stayed : (until : Option ℕ) (old new : Nbns C) → StaysUntil (RenewsOn does failures RenewsPort keeps tells MachineTells (Journals MachineTells Stays Stays) NotesNames until) (BreaksStaying does keeps tells fault.Port) (WatchesLast does failures keeps tells MachineTells (Journals MachineTells Stays Stays) until) forever old new → BareOver old new
+  bare_stayed until old new stayed = stays_until (RenewsOn does failures RenewsPort keeps tells MachineTells (Journals MachineTells Stays Stays) NotesNames until) (BreaksStaying does keeps tells fault.Port) BareOver (bare_overall until) BareOver (λ old new over. over) (WatchesLast does failures keeps tells MachineTells (Journals MachineTells Stays Stays) until) forever old new
       (λ mid so_far last. bare_joined old mid new so_far (bare_watches mid new last.0 last.1)) stayed
 
-  bare_cut : (cause : Fault) (old new : Nbns C) → CutsStaying does failures keeps tells MachineTells (Journals MachineTells Stays) cause old new → BareOver old new
+  bare_cut : (cause : Fault) (old new : Nbns C) → CutsStaying does failures keeps tells MachineTells (Journals MachineTells Stays Stays) cause old new → BareOver old new
   bare_cut why.Store old new (in_turn broke) none = bare_breaks old new fault.Store broke none
   bare_cut why.Store old new (after_turn shown mid shows fails_so) none =
       let early = bare_shows old (record new { served = record new.served { state = mid } }) shown shows none in
@@ -138,8 +138,8 @@ module _ {C : Type 0} (does : Fronted PortsValue → PortCall → Fronted PortsV
   bare_cut why.Output old new cut none = absurd cut
   bare_cut why.Memory old new cut none = absurd cut
 
-  pub bare_ended : (until : Option ℕ) (cause : Fault) (old new : Nbns C) → EndsEarly (RenewsOn does failures RenewsPort keeps tells MachineTells (Journals MachineTells Stays) NotesNames until) (BreaksStaying does keeps tells fault.Port) (CutsStaying does failures keeps tells MachineTells (Journals MachineTells Stays)) forever cause old new → BareOver old new
-  bare_ended until cause old new ended = ends_early (RenewsOn does failures RenewsPort keeps tells MachineTells (Journals MachineTells Stays) NotesNames until) (BreaksStaying does keeps tells fault.Port) BareOver (bare_overall until) BareOver (λ old new over. over) (CutsStaying does failures keeps tells MachineTells (Journals MachineTells Stays)) forever cause old new
+  pub bare_ended : (until : Option ℕ) (cause : Fault) (old new : Nbns C) → EndsEarly (RenewsOn does failures RenewsPort keeps tells MachineTells (Journals MachineTells Stays Stays) NotesNames until) (BreaksStaying does keeps tells fault.Port) (CutsStaying does failures keeps tells MachineTells (Journals MachineTells Stays Stays)) forever cause old new → BareOver old new
+  bare_ended until cause old new ended = ends_early (RenewsOn does failures RenewsPort keeps tells MachineTells (Journals MachineTells Stays Stays) NotesNames until) (BreaksStaying does keeps tells fault.Port) BareOver (bare_overall until) BareOver (λ old new over. over) (CutsStaying does failures keeps tells MachineTells (Journals MachineTells Stays Stays)) forever cause old new
       (λ cause mid so_far cut. bare_joined old mid new so_far (bare_cut cause mid new cut)) ended
 
   -- ---- with a state
@@ -170,7 +170,7 @@ module _ {C : Type 0} (does : Fronted PortsValue → PortCall → Fronted PortsV
   nothing_went : (old new : Nbns C) (s : State Bool) → watched_of new ≡ watched_of old → new.served.state ≡ Some s → Went old new s
   nothing_went old new s same there = record { state = s; there = there; events = []; happened = same; in_order = ([], refl, inl tt) }
 
-  shows_so : (old new : Nbns C) (shown : Shown) → Shows does failures keeps tells MachineTells (Journals MachineTells Stays) old shown new → Over old new
+  shows_so : (old new : Nbns C) (shown : Shown) → Shows does failures keeps tells MachineTells (Journals MachineTells Stays Stays) old shown new → Over old new
   shows_so old new shown w s is =
       let turned = by_some _ _ old.served.state w.turned s w.turn is in
       let seen = by_some _ _ w.turned new.served.state turned.state w.seen turned.there in
@@ -190,7 +190,7 @@ module _ {C : Type 0} (does : Fronted PortsValue → PortCall → Fronted PortsV
             (tells_in_turn new.served.server turned.state.waiting w.sent shown turned.state.teller _ _ _ tell);
       }
 
-  watched_so : (old new : Nbns C) (shown : Shown) → Watches does failures keeps tells MachineTells (Journals MachineTells Stays) old shown new → Over old new
+  watched_so : (old new : Nbns C) (shown : Shown) → Watches does failures keeps tells MachineTells (Journals MachineTells Stays Stays) old shown new → Over old new
   watched_so old new shown w s is =
       let shows = shows_so old (record new { served = record new.served { state = w.mid } }) shown w.shows s is in
       let looked = by_some _ _ w.mid new.served.state shows.state w.looks shows.there in
@@ -224,7 +224,7 @@ module _ {C : Type 0} (does : Fronted PortsValue → PortCall → Fronted PortsV
   }
   renewed_so old _ (can_not at clock told) s is = nothing_went old (record old { served = record old.served { clock = clock } }) s refl is
 
-  overall : (until : Option ℕ) → IsOverall (RenewsOn does failures RenewsPort keeps tells MachineTells (Journals MachineTells Stays) NotesNames until) (BreaksStaying does keeps tells fault.Port) Over
+  overall : (until : Option ℕ) → IsOverall (RenewsOn does failures RenewsPort keeps tells MachineTells (Journals MachineTells Stays Stays) NotesNames until) (BreaksStaying does keeps tells fault.Port) Over
   overall until = record {
     none = λ here s is. nothing_went here here s refl is;
     both = joined;
@@ -232,12 +232,12 @@ module _ {C : Type 0} (does : Fronted PortsValue → PortCall → Fronted PortsV
     of_break = λ old new broke. broke_so old new fault.Port broke;
   }
 
-  pub stayed : (until : Option ℕ) (old new : Nbns C) → StaysUntil (RenewsOn does failures RenewsPort keeps tells MachineTells (Journals MachineTells Stays) NotesNames until) (BreaksStaying does keeps tells fault.Port) (WatchesLast does failures keeps tells MachineTells (Journals MachineTells Stays) until) forever old new → Over old new
-  stayed until old new up = stays_until (RenewsOn does failures RenewsPort keeps tells MachineTells (Journals MachineTells Stays) NotesNames until) (BreaksStaying does keeps tells fault.Port) Over (overall until) Over (λ old new over. over) (WatchesLast does failures keeps tells MachineTells (Journals MachineTells Stays) until) forever old new
+  pub stayed : (until : Option ℕ) (old new : Nbns C) → StaysUntil (RenewsOn does failures RenewsPort keeps tells MachineTells (Journals MachineTells Stays Stays) NotesNames until) (BreaksStaying does keeps tells fault.Port) (WatchesLast does failures keeps tells MachineTells (Journals MachineTells Stays Stays) until) forever old new → Over old new
+  stayed until old new up = stays_until (RenewsOn does failures RenewsPort keeps tells MachineTells (Journals MachineTells Stays Stays) NotesNames until) (BreaksStaying does keeps tells fault.Port) Over (overall until) Over (λ old new over. over) (WatchesLast does failures keeps tells MachineTells (Journals MachineTells Stays Stays) until) forever old new
       (λ mid so_far last. joined old mid new so_far (watched_so mid new last.0 last.1)) up
 
   -- the store fails, in a turn or as the file is looked after
-  store_failed : (old new : Nbns C) → StoreFails does failures keeps tells MachineTells (Journals MachineTells Stays) old new → Over old new
+  store_failed : (old new : Nbns C) → StoreFails does failures keeps tells MachineTells (Journals MachineTells Stays Stays) old new → Over old new
   store_failed old new (in_turn broke) s is = broke_so old new fault.Store broke s is
   store_failed old new (after_turn shown between shows fails_so) s is =
       let seen = shows_so old (record new { served = record new.served { state = between } }) shown shows s is in
@@ -250,7 +250,7 @@ module _ {C : Type 0} (does : Fronted PortsValue → PortCall → Fronted PortsV
         in_order = subst (λ (x : List Untold). IsToldInTurn (entries_of s.teller) seen.events (entries_of x)) (sym looked.holds.2) seen.in_order;
       }
 
-  cut_so : (cause : Fault) (old new : Nbns C) → CutsStaying does failures keeps tells MachineTells (Journals MachineTells Stays) cause old new → Over old new
+  cut_so : (cause : Fault) (old new : Nbns C) → CutsStaying does failures keeps tells MachineTells (Journals MachineTells Stays Stays) cause old new → Over old new
   cut_so why.Store old new cut s is = store_failed old new cut s is
   cut_so why.NoPort old new cut s is = absurd cut
   cut_so why.NoClock old new cut s is = absurd cut
@@ -258,6 +258,6 @@ module _ {C : Type 0} (does : Fronted PortsValue → PortCall → Fronted PortsV
   cut_so why.Output old new cut s is = absurd cut
   cut_so why.Memory old new cut s is = absurd cut
 
-  pub ended_early : (until : Option ℕ) (cause : Fault) (old new : Nbns C) → EndsEarly (RenewsOn does failures RenewsPort keeps tells MachineTells (Journals MachineTells Stays) NotesNames until) (BreaksStaying does keeps tells fault.Port) (CutsStaying does failures keeps tells MachineTells (Journals MachineTells Stays)) forever cause old new → Over old new
-  ended_early until cause old new ended = ends_early (RenewsOn does failures RenewsPort keeps tells MachineTells (Journals MachineTells Stays) NotesNames until) (BreaksStaying does keeps tells fault.Port) Over (overall until) Over (λ old new over. over) (CutsStaying does failures keeps tells MachineTells (Journals MachineTells Stays)) forever cause old new
+  pub ended_early : (until : Option ℕ) (cause : Fault) (old new : Nbns C) → EndsEarly (RenewsOn does failures RenewsPort keeps tells MachineTells (Journals MachineTells Stays Stays) NotesNames until) (BreaksStaying does keeps tells fault.Port) (CutsStaying does failures keeps tells MachineTells (Journals MachineTells Stays Stays)) forever cause old new → Over old new
+  ended_early until cause old new ended = ends_early (RenewsOn does failures RenewsPort keeps tells MachineTells (Journals MachineTells Stays Stays) NotesNames until) (BreaksStaying does keeps tells fault.Port) Over (overall until) Over (λ old new over. over) (CutsStaying does failures keeps tells MachineTells (Journals MachineTells Stays Stays)) forever cause old new
       (λ cause mid so_far cut. joined old mid new so_far (cut_so cause mid new cut)) ended

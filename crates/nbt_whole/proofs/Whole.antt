@@ -54,7 +54,7 @@ module _ (a : NbnsArguments) where
   state_at_first b = record { store = false; header = b.header; share = share_of a.changes_per_client; waiting = none_waits b.header.last; teller = [] }
 
   abbrev FinishedHere : Nbns (Ahead ℕ) → Nbns (Ahead ℕ) → Type 0
-  FinishedHere first last = Finished (PortDoes a.strict) PortFailures FolderDoes (TellsAhead (SteadyTells SystemShows)) MachineTells (Journals MachineTells Stays) NotesNames (IsHeaderOf first.served.server) (any_pair first.served.server) first last
+  FinishedHere first last = Finished (PortDoes a.strict) PortFailures FolderDoes (TellsAhead (SteadyTells SystemShows)) MachineTells (Journals MachineTells Stays Stays) NotesNames (IsHeaderOf first.served.server) (any_pair first.served.server) first last
 
   kept_lived : StartBeginsARun → (state : StateFolder) (first last : Nbns (Ahead ℕ)) (manner : Manner) (s : StartsKept a state manner first) → FinishedHere first last → KeptIsLived a s.begun first last
   kept_lived law state first last manner s over = subst (λ (here : Nbns (Ahead ℕ)). FinishedHere here last → KeptIsLived a s.begun here last) (sym s.first_is) from over
@@ -76,16 +76,16 @@ module _ (a : NbnsArguments) where
 
 pub nbns_are_lived : NbnsAreLived
 nbns_are_lived a old_text text ran = bare_lived a ran.first ran.last ran.manner ran.begins
-    (bare_stayed (PortDoes a.strict) PortFailures FolderDoes (SteadyTells SystemShows) MachineTells (Journals MachineTells Stays) NotesNames (until_of ran.first.served.server.last a.time) ran.first ran.last ran.goes_on)
+    (bare_stayed (PortDoes a.strict) PortFailures FolderDoes (SteadyTells SystemShows) MachineTells (Journals MachineTells Stays Stays) NotesNames (until_of ran.first.served.server.last a.time) ran.first ran.last ran.goes_on)
 
 pub failed_nbns_are_lived : FailedNbnsAreLived
 failed_nbns_are_lived a old_text text ran = bare_lived a ran.first ran.last ran.manner ran.begins
-    (bare_ended (PortDoes a.strict) PortFailures FolderDoes (SteadyTells SystemShows) MachineTells (Journals MachineTells Stays) NotesNames (until_of ran.first.served.server.last a.time) why.Device ran.first ran.last ran.goes_on)
+    (bare_ended (PortDoes a.strict) PortFailures FolderDoes (SteadyTells SystemShows) MachineTells (Journals MachineTells Stays Stays) NotesNames (until_of ran.first.served.server.last a.time) why.Device ran.first ran.last ran.goes_on)
 
 pub kept_are_lived : StartBeginsARun → KeptAreLived
 kept_are_lived law a state old_text text ran = kept_lived a law state ran.first ran.last ran.manner ran.begins
-    (stayed (PortDoes a.strict) PortFailures FolderDoes (TellsAhead (SteadyTells SystemShows)) MachineTells (Journals MachineTells Stays) NotesNames (IsHeaderOf ran.first.served.server) (any_pair ran.first.served.server) (until_of ran.first.served.server.last a.time) ran.first ran.last ran.goes_on)
+    (stayed (PortDoes a.strict) PortFailures FolderDoes (TellsAhead (SteadyTells SystemShows)) MachineTells (Journals MachineTells Stays Stays) NotesNames (IsHeaderOf ran.first.served.server) (any_pair ran.first.served.server) (until_of ran.first.served.server.last a.time) ran.first ran.last ran.goes_on)
 
 pub failed_kept_are_lived : StartBeginsARun → FailedKeptAreLived
 failed_kept_are_lived law a state cause old_text text ran = kept_lived a law state ran.first ran.last ran.manner ran.begins
-    (ended_early (PortDoes a.strict) PortFailures FolderDoes (TellsAhead (SteadyTells SystemShows)) MachineTells (Journals MachineTells Stays) NotesNames (IsHeaderOf ran.first.served.server) (any_pair ran.first.served.server) (until_of ran.first.served.server.last a.time) cause ran.first ran.last ran.goes_on)
+    (ended_early (PortDoes a.strict) PortFailures FolderDoes (TellsAhead (SteadyTells SystemShows)) MachineTells (Journals MachineTells Stays Stays) NotesNames (IsHeaderOf ran.first.served.server) (any_pair ran.first.served.server) (until_of ran.first.served.server.last a.time) cause ran.first ran.last ran.goes_on)

@@ -43,7 +43,7 @@ pub data Event : Type 0 where
 -- what each makes of them; the journal is shown the server as it is by then
 pub data Happens (old : Watched) : Event → Watched → Type 0 where
   acts : (entry : Option Entry) (server : ServerValue) → Acts old.server entry server → Happens old (acted entry) (record old { server = server })
-  sees : (shown : Shown) (journal : Journal ℕ FileValue) (text : Option (List ℕ)) → Journals MachineTells Stays old.journal old.server shown old.text journal text
+  sees : (shown : Shown) (journal : Journal ℕ FileValue) (text : Option (List ℕ)) → Journals MachineTells Stays Stays old.journal old.server shown old.text journal text
       → Happens old (was_shown shown) (record old { journal = journal; text = text })
   notes : (capitals : List (List ℕ)) (journal : Journal ℕ FileValue) → NotesNames old.journal capitals journal → Happens old (were_fixed capitals) (record old { journal = journal })
 

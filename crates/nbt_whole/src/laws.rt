@@ -1,6 +1,6 @@
 //! A whole name server lives in a network, and is watched: each law is the contract of a function that does nothing.
 
-ghost use Rattle.nbt_whole.specs.Aging.{WhatIsListedIsRecent};
+ghost use Rattle.nbt_whole.specs.Aging.{LeasesAreRecent, HostsAreRecent, StatisticsAreRecent};
 ghost use Rattle.nbt_whole.specs.Nbns.{NbnsAreLived, FailedNbnsAreLived, KeptAreLived, FailedKeptAreLived};
 ghost use Rattle.nbt_whole.specs.Watched.{NbnsAreWatched, FailedNbnsAreWatched, KeptAreWatched, FailedKeptAreWatched};
 ghost use Rattle.nbt_whole.specs.Printed.{EachLineIsPrintedOrCounted};
@@ -48,9 +48,16 @@ pub fn each_line_is_printed_or_counted()
     ensures { EachLineIsPrintedOrCounted }
 {}
 
-/// As long as no look at the list of leases fails, a showing is at most `gap` milliseconds after the one before, and the server has at most `most` rows, the text that the
-/// place of the list was given last is that of a showing that is no older at the last one than a second, a gap, and twice 5 ms and a gap for each 256 rows (`oldest`). It has one once as
-/// long has passed from the beginning.
+/// As long as a showing is at most `gap` milliseconds after the one before, and the server has at most `most` rows, the text that the place of the list of leases was given last is that of
+/// a showing that is no older at the last one than a second, a gap, and twice 5 ms and a gap for each 256 rows (`leases`), unless a look at the list failed no longer ago than that. It has
+/// one once as long has passed from the beginning, and from the last look that failed. So it is with the hosts (`hosts`), in four times 5 ms and a gap for each 256 rows in place of twice.
 pub fn what_is_listed_is_recent()
-    ensures { WhatIsListedIsRecent }
+    ensures leases { LeasesAreRecent }
+    ensures hosts { HostsAreRecent }
+{}
+
+/// So it is with the statistics: their text is that of a showing that is no older at the last one than a second, whatever `gap` and `most` are, unless a look at them failed no longer ago
+/// than that.
+pub fn the_statistics_are_recent()
+    ensures { StatisticsAreRecent }
 {}

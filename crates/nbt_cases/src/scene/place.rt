@@ -23,6 +23,8 @@ impl Place for ScenePlace<'_, '_> {
 
     ghost puts = { λ _ _ _. ⊤ };
 
+    ghost refuses = { λ _ _ _. ⊤ };
+
     fn name(&self) -> &str {
         content_word(self.content)
     }

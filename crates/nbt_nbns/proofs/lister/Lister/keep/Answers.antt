@@ -7,5 +7,5 @@ use Rattle.nbt_nbns.proofs.lister.Lister.keep.Goals as goal
 
 pub returns-then-not-is_due : goal.returns-then-not-is_due
 returns-then-not-is_due g c =
-    early_list g.L.Place.puts (listing_of c.args.listing.now) c.args.server.now.table.rows c.args.now c.args.self.now c.self.inside.looked c.self.inside.draft (text_of c.self.inside.text) c.self.inside.place (sym c.self.view_is)
+    early_list g.L.Place.puts g.L.Place.refuses (listing_of c.args.listing.now) c.args.server.now.table.rows c.args.now c.args.self.now c.self.inside.looked c.self.inside.draft (text_of c.self.inside.text) c.self.inside.place (sym c.self.view_is)
     (λ due. false≢true (c.if-not-is_due.ensures.1 due))
