@@ -1,5 +1,5 @@
 -- A name server begins over this machine, with a state or without one.
-use Rattle.std.proofs.Common.{◌≡◌, ◌⊎◌, ℕ, Bool, false, List, [], Option, Some, None, Result, Ok, Err, refl, subst, inl, inr}
+use Rattle.std.proofs.Common.{◌≡◌, ◌⊎◌, ℕ, List, [], Option, Some, None, Result, Ok, Err, refl, subst, inl, inr}
 use Rattle.std.specs.Prelude.{IfErr}
 use Rattle.nbt_lease.specs.Lease.{Rows}
 use Rattle.nbt_server.specs.Serving.{ServerValue}
@@ -14,6 +14,7 @@ use Rattle.nbt_serve.specs.Runs.{live_rows}
 use Rattle.nbt_serve.specs.Sharing.{ShareValue, share_of}
 use Rattle.nbt_serve.specs.Waiting.{WaitingValue, none_waits}
 use Rattle.nbt_store.specs.declared.beginning.Begun.{Begun}
+use Rattle.nbt_nbns.specs.Folders.{FolderValue}
 use Rattle.nbt_nbns.specs.Inner.Resuming.{kept_of}
 use Rattle.nbt_nbns.specs.Inner.Starting.{AreRead, Starts, StartsNot, staying_of}
 use Rattle.nbt_nbns.specs.Places.{FileValue}
@@ -29,15 +30,15 @@ use Rattle.nbt_nbns.specs.declared.teller.Untold.{Untold}
 -- what a server is at first that starts without a state, from what made it
 pub is_at_first : (a : NbnsArguments) (start clock time day no_day : ℕ) (first server : ServerValue) (journal : Journal ℕ FileValue) (text : Option (List ℕ))
     → clock ≡ start → day ≡ time → no_day ≡ 0 → server ≡ limited (Some a.rows_per_client) first → journal ≡ new_journal a (record { moment = start; time = time }) day start
-    → staying_of {S = Bool} (port_at_first a []) (record { clock = clock; server = server; state = None; day = no_day; journal = journal }) text ≡ at_first a start time first text
+    → staying_of {S = FolderValue} (port_at_first a []) (record { clock = clock; server = server; state = None; day = no_day; journal = journal }) text ≡ at_first a start time first text
 is_at_first a start clock time day no_day first server journal text c d n s j = cc
 
 -- and what one is that begins with a state
-pub is_kept_at_first : (a : NbnsArguments) (begun : Begun) (monotonic time : ℕ) (store : Bool) (clock day : ℕ) (share : ShareValue) (waiting : WaitingValue) (teller : List Untold) (journal : Journal ℕ FileValue) (kept : Started Bool (Ahead ℕ) ℕ (Journal ℕ FileValue)) (standing : Rows) (text : Option (List ℕ))
-    → store ≡ false → clock ≡ monotonic → day ≡ time → share ≡ share_of a.changes_per_client → waiting ≡ none_waits begun.header.last → teller ≡ [] → journal ≡ new_journal a (dates_of begun time) 0 begun.start
+pub is_kept_at_first : (a : NbnsArguments) (begun : Begun) (monotonic time : ℕ) (store : FolderValue) (clock day : ℕ) (share : ShareValue) (waiting : WaitingValue) (teller : List Untold) (journal : Journal ℕ FileValue) (kept : Started FolderValue (Ahead ℕ) ℕ (Journal ℕ FileValue)) (standing : Rows) (text : Option (List ℕ))
+    → clock ≡ monotonic → day ≡ time → share ≡ share_of a.changes_per_client → waiting ≡ none_waits begun.header.last → teller ≡ [] → journal ≡ new_journal a (dates_of begun time) 0 begun.start
     → kept ≡ kept_of begun store clock day share waiting teller journal a.rows_per_client → standing ≡ in_the_way a.front.fixed (live_rows begun.server)
-    → staying_of (port_at_first a standing) kept text ≡ kept_at_first a begun monotonic time text
-is_kept_at_first a begun monotonic time store clock day share waiting teller journal kept standing text s c d h w t j k o = cc
+    → staying_of (port_at_first a standing) kept text ≡ kept_at_first a begun store monotonic time text
+is_kept_at_first a begun monotonic time store clock day share waiting teller journal kept standing text c d h w t j k o = cc
 
 -- both clocks stay at what they told
 pub are_read : (steady : ℕ) (told : Told) (day : ℕ) → AreRead steady told day → AreRead told.monotonic told told.time
@@ -51,7 +52,7 @@ are_read steady told day r = record {
 }
 
 -- a server that began goes on behind its port
-pub begins : {C : Type 0} (starts : Manner → Nbns C → Type 0) (goes : Nbns C → Nbns C → Type 0) (a : NbnsArguments) (standing : Rows) (old_text begun_text text : Option (List ℕ)) (port : Fronted PortsValue) (s : Started Bool C ℕ (Journal ℕ FileValue)) (new : Nbns C)
+pub begins : {C : Type 0} (starts : Manner → Nbns C → Type 0) (goes : Nbns C → Nbns C → Type 0) (a : NbnsArguments) (standing : Rows) (old_text begun_text text : Option (List ℕ)) (port : Fronted PortsValue) (s : Started FolderValue C ℕ (Journal ℕ FileValue)) (new : Nbns C)
     → Starts starts a standing old_text begun_text s → port ≡ port_at_first a standing → new.text ≡ text → goes (staying_of port s begun_text) new → Begins starts goes old_text text
 begins starts goes a standing old_text begun_text text port s new b port_is text_is run = record {
   at = b.at;

@@ -1,5 +1,7 @@
 -- What several proofs share; the proof of a function is in the folder of its module and its name.
 
+-- a store in a folder
+mod Folders
 -- a server begins, over this machine
 mod Beginning
 -- what is said of one that would begin

@@ -2,13 +2,12 @@
 use Rattle.std.specs.Prelude.{◌≡◌, ◌⊎◌, ℕ, List, ◌++◌, Option, Some, None, codes}
 use Rattle.std.specs.Io.KnownBytes.{Appends}
 use Rattle.nbt_text.specs.Lines.{newline}
-use Rattle.nbt_port.specs.declared.ahead.Ahead.{Ahead}
 use Rattle.nbt_port.specs.declared.fault.Fault.{Fault}
 use Rattle.nbt_port.specs.declared.fault.Fault.TheVariants.{NoClock, Output}
 use Rattle.nbt_nbns.specs.Begin.{IsManner}
 use Rattle.nbt_nbns.specs.Opening.{IsStoreFault}
 use Rattle.nbt_nbns.specs.Running.{Nbns, StartsAnew}
-use Rattle.nbt_nbns.specs.Servers.{StartsKept}
+use Rattle.nbt_nbns.specs.Servers.{FindsKept}
 use Rattle.nbt_nbns.specs.declared.arguments.NbnsArguments.{NbnsArguments}
 use Rattle.nbt_nbns.specs.declared.arguments.ServerArguments.{ServerArguments}
 use Rattle.nbt_nbns.specs.declared.arguments.StateFolder.{StateFolder}
@@ -23,7 +22,7 @@ IsCheck manner line = (text : List ℕ) × IsManner manner text × (line ≡ cod
 -- a server that starts now begins in this manner
 abbrev pub WouldBegin : NbnsArguments → Option StateFolder → Manner → Type 0
 WouldBegin a None manner = (first : Nbns ℕ) × StartsAnew a manner first
-WouldBegin a (Some state) manner = (first : Nbns (Ahead ℕ)) × StartsKept a state manner first
+WouldBegin a (Some state) manner = FindsKept a state manner
 
 -- That is printed. Whether another server has the lock of the folder no contract can say; without a folder none has.
 pub record ChecksWith (a : NbnsArguments) (state : Option StateFolder) (folder : Folder) (old_text text : Option (List ℕ)) : Type 0 where

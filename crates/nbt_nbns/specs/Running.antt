@@ -29,7 +29,7 @@ use Rattle.nbt_nbns.specs.Keeping.{KeeperValue, new_keeper}
 use Rattle.nbt_nbns.specs.Listers.{ListerValue, new_lister}
 use Rattle.nbt_nbns.specs.Logging.{LoggerValue, new_logger}
 use Rattle.nbt_nbns.specs.Places.{FileValue, file_of, Stays}
-use Rattle.nbt_nbns.specs.Folders.{FolderDoes}
+use Rattle.nbt_nbns.specs.Folders.{FolderDoes, FolderValue}
 use Rattle.nbt_nbns.specs.Renewing.{NotesNames, RenewsOn, RenewsPort}
 use Rattle.nbt_nbns.specs.Staying.{Staying, BreaksStaying, CutsStaying, WatchesLast}
 use Rattle.nbt_nbns.specs.declared.first_line.Manner.{Manner}
@@ -91,7 +91,7 @@ new_journal a dates day start = record {
 
 -- what goes on: a port, a clock and a server of this machine, its folder, if it has one, and the journal
 abbrev pub Nbns : (C : Type 0) → Type 0
-Nbns C = Staying (Fronted PortsValue) Bool C ℕ (Journal ℕ FileValue)
+Nbns C = Staying (Fronted PortsValue) FolderValue C ℕ (Journal ℕ FileValue)
 
 module _ {C : Type 0} (tells : C → ℕ → C → Type 0) (strict : Bool) (until : Option ℕ) where
   -- It stays up for good, or until its time is over.

@@ -1,5 +1,5 @@
 -- What a name server that may keep its leases does and prints over this machine (our profile).
-use Rattle.std.specs.Prelude.{◌≡◌, ◌⊎◌, ⊤, ℕ, false, List, [], length, Option, Some, None}
+use Rattle.std.specs.Prelude.{◌≡◌, ◌⊎◌, ⊤, ℕ, List, [], length, Option, Some, None}
 use Rattle.nbt_port.specs.Clocks.{MachineTells, SteadyTells, SteadyBegins, SystemShows, TellsAhead}
 use Rattle.nbt_port.specs.Until.{until_of}
 use Rattle.nbt_port.specs.declared.ahead.Ahead.{Ahead}
@@ -12,6 +12,7 @@ use Rattle.nbt_nbns.specs.Running.{Nbns, Begins, KeepsUntil, KeepsNot, NbnsFails
 use Rattle.nbt_nbns.specs.declared.first_line.Manner.{Manner}
 use Rattle.nbt_nbns.specs.declared.arguments.NbnsArguments.{NbnsArguments}
 use Rattle.nbt_nbns.specs.Begin.{manner_of}
+use Rattle.nbt_nbns.specs.Folders.{FolderValue, IsOpenedWith}
 use Rattle.nbt_nbns.specs.Opening.{IsFoundHere}
 use Rattle.nbt_serve.specs.Runs.{live_rows}
 use Rattle.nbt_serve.specs.Sharing.{share_of}
@@ -27,15 +28,15 @@ use Rattle.nbt_store.specs.declared.beginning.Begun.{Begun}
 abbrev pub dates_of : Begun → (time : ℕ) → Dates
 dates_of begun time = record { moment = begun.reads; time = time }
 
--- What a server is at first that begins so, at this time of the monotonic clock and this time of day: it limits its clients, none of which made a change yet, and those of its leases stand in
+-- What a server is at first that begins so, with this store in its folder, at this time of the monotonic clock and this time of day: it limits its clients, none of which made a change yet, and those of its leases stand in
 -- the way of fixed names that are another machine's.
-abbrev pub kept_at_first : NbnsArguments → Begun → (monotonic time : ℕ) → Option (List ℕ) → Nbns (Ahead ℕ)
-kept_at_first a begun monotonic time text = record {
+abbrev pub kept_at_first : NbnsArguments → Begun → (store : FolderValue) → (monotonic time : ℕ) → Option (List ℕ) → Nbns (Ahead ℕ)
+kept_at_first a begun store monotonic time text = record {
   served = record {
     port = port_at_first a (in_the_way a.front.fixed (live_rows begun.server));
     clock = record { clock = monotonic; by = begun.header.ahead };
     server = limited (Some a.rows_per_client) begun.server;
-    state = Some (record { store = false; header = begun.header; share = share_of a.changes_per_client; waiting = none_waits begun.header.last; teller = [] });
+    state = Some (record { store = store; header = begun.header; share = share_of a.changes_per_client; waiting = none_waits begun.header.last; teller = [] });
   };
   day = time;
   watcher = new_journal a (dates_of begun time) 0 begun.start;
@@ -43,7 +44,7 @@ kept_at_first a begun monotonic time text = record {
 }
 
 -- The clocks are read, and a server begins with what is found.
-pub record StartsKept (a : NbnsArguments) (state : StateFolder) (manner : Manner) (first : Nbns (Ahead ℕ)) : Type 0 where
+pub record FindsKept (a : NbnsArguments) (state : StateFolder) (manner : Manner) : Type 0 where
   pub boot : ℕ
   pub told : Told
   pub day : ℕ
@@ -54,7 +55,13 @@ pub record StartsKept (a : NbnsArguments) (state : StateFolder) (manner : Manner
   pub time_told : MachineTells day told.time told.time
   pub found : IsFoundHere a.config told state.silent_after_boot begun
   pub manner_is : manner ≡ manner_of a.config.longest begun.start begun.server.last (dates_of begun told.time) (length (live_rows begun.server)) begun.reason
-  pub first_is : first ≡ kept_at_first a begun told.monotonic told.time first.text
+
+-- Then the file in its folder is written anew, with its header and its live leases, and it goes on from there.
+pub record StartsKept (a : NbnsArguments) (state : StateFolder) (manner : Manner) (first : Nbns (Ahead ℕ)) : Type 0 where
+  pub finds : FindsKept a state manner
+  pub store : FolderValue
+  pub opened : IsOpenedWith finds.begun.header (live_rows finds.begun.server) store
+  pub first_is : first ≡ kept_at_first a finds.begun store finds.told.monotonic finds.told.time first.text
 
 abbrev pub RunsKept : NbnsArguments → StateFolder → (old_text text : Option (List ℕ)) → Type 0
 RunsKept a state old_text text = Begins (StartsKept a state) (λ first. KeepsUntil (TellsAhead (SteadyTells SystemShows)) a.strict (until_of first.served.server.last a.time) first) old_text text

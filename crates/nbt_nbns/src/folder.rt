@@ -1,6 +1,7 @@
 //! The folder that keeps a server's leases.
 
-ghost use Rattle.std.specs.Prelude.{◌≡◌, false, IfOk};
+ghost use Rattle.std.specs.Prelude.{IfOk};
+ghost use Rattle.nbt_nbns.specs.Folders.{IsOpenedWith};
 
 use nbt_lease::Lease;
 use nbt_name::Name;
@@ -11,7 +12,8 @@ use std::marker::Model;
 use std::rt::Files;
 use std::{io, time};
 
-/// A store in a folder of the system. What its files keep no contract can say: one sees whether the store is broken.
+/// A store in a folder of the system. What its files keep no contract can say: one sees what a call may have asked of them, by where the store goes
+/// on behind it, and whether it is broken. That a sync was asked for one can't see, since it changes neither.
 #[derive(Drop)]
 pub struct FolderStore<'a, M: Files> {
     folder: &'a str,
@@ -19,23 +21,22 @@ pub struct FolderStore<'a, M: Files> {
 }
 
 impl<'a, M: Files> Model for FolderStore<'a, M> {
-    ghost use Rattle.std.specs.Prelude.{Bool};
-    ghost use Rattle.nbt_store.specs.DiskStores.{is_broken};
+    ghost use Rattle.nbt_nbns.specs.Folders.{FolderValue, folder_value};
 
-    ghost Value = { Bool };
+    ghost Value = { FolderValue };
 
-    ghost view = { λ f. is_broken f.store };
+    ghost view = { λ f. folder_value f.store };
 }
 
 impl<'a, M: Files + time::Clock> FolderStore<'a, M> {
-    /// Opens the store of a folder with these leases, as [`DiskStore::open`] does.
+    /// Opens the store of a folder with this header and these leases, as [`DiskStore::open`] does.
     pub fn open(
         disk: SystemDisk<'a, M>,
         alloc: Global,
         header: &Header,
         rows: &[(Name, Lease)],
     ) -> io::Result<FolderStore<'a, M>>
-        ensures { IfOk result (λ folder. folder ≡ false) }
+        ensures { IfOk result (IsOpenedWith header.now rows.now) }
     {
         let folder = disk.folder();
         let store = DiskStore::open(disk, alloc, header, rows)?;

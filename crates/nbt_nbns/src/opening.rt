@@ -1,6 +1,7 @@
 //! What a server reads and writes at its start, where it keeps its leases.
 
-ghost use Rattle.std.specs.Prelude.{◌≡◌, false, IfOk, IfErr};
+ghost use Rattle.std.specs.Prelude.{◌≡◌, IfOk, IfErr};
+ghost use Rattle.nbt_nbns.specs.Folders.{IsOpenedWith};
 ghost use Rattle.nbt_nbns.specs.Opening.{IsStoreFault, IsFoundHere, seen_in};
 ghost use Rattle.nbt_nbns.specs.Inner.Starting.{AreRead};
 ghost use Rattle.nbt_serve.specs.Runs.{live_rows};
@@ -194,7 +195,7 @@ pub(crate) fn begin_with<E: Write>(
     Ok(begin(alloc, &found)?)
 }
 
-/// Opens the store of a folder with the leases of a server that begins. A file that is damaged or of another version is set aside before.
+/// Opens the store of a folder with the header and the leases of a server that begins. A file that is damaged or of another version is set aside before.
 /// Refused with `Memory` or `Store`.
 pub(crate) fn open_store<'a, M: Files<File = File> + time::Clock, E: Write>(
     locked: Locked<'a, M>,
@@ -202,7 +203,7 @@ pub(crate) fn open_store<'a, M: Files<File = File> + time::Clock, E: Write>(
     begun: &Begun,
     errors: &mut E,
 ) -> Result<Opened<'a, M>, Fault>
-    ensures store { IfOk result (λ opened. opened.store ≡ false) }
+    ensures store { IfOk result (λ opened. IsOpenedWith begun.now.header (live_rows begun.now.server) opened.store) }
     ensures rows { IfOk result (λ opened. opened.rows.items ≡ live_rows begun.now.server) }
     ensures err { IfErr result IsStoreFault }
 {

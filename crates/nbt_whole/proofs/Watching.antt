@@ -18,6 +18,7 @@ use Rattle.nbt_serve.specs.Turning.{Took, TakesAny}
 use Rattle.nbt_serve.specs.Waiting.{ReplyValue}
 use Rattle.nbt_serve.specs.declared.fault.KeepFault.{KeepFault}
 use Rattle.nbt_serve.specs.declared.fault.KeepFault.TheVariants as fault
+use Rattle.nbt_nbns.specs.Folders.{FolderValue}
 use Rattle.nbt_nbns.specs.Journaling.{Journals}
 use Rattle.nbt_nbns.specs.Places.{FileValue, Stays}
 use Rattle.nbt_nbns.specs.Renewing.{NotesNames, RenewsPort, RenewsFront, stays, puts, can_not, RenewsOn}
@@ -44,7 +45,7 @@ broken_keeping : (old new : ServerValue) (took : Option Took) → TakesAny old t
 broken_keeping old new None takes = fails serving.is_empty new (subst (λ (s : ServerValue). Turns old serving.is_empty s) (sym takes) passes)
 broken_keeping old new (Some took) takes = fails took.turn new takes.server
 
-module _ {C : Type 0} (does : Fronted PortsValue → PortCall → Fronted PortsValue → Type 0) (failures : Fronted PortsValue → ℕ) (keeps : Bool → StoreCall → Bool → Type 0) (tells : C → ℕ → C → Type 0) where
+module _ {C : Type 0} (does : Fronted PortsValue → PortCall → Fronted PortsValue → Type 0) (failures : Fronted PortsValue → ℕ) (keeps : FolderValue → StoreCall → FolderValue → Type 0) (tells : C → ℕ → C → Type 0) where
   -- ---- without a state
 
   -- what happened between two states of a server without a state
@@ -145,15 +146,15 @@ module _ {C : Type 0} (does : Fronted PortsValue → PortCall → Fronted PortsV
   -- ---- with a state
 
   -- What happened between two states of a server with a state: by the turns that weren't shown yet.
-  pub record Went (old new : Nbns C) (s : State Bool) : Type 0 where
-    pub state : State Bool
+  pub record Went (old new : Nbns C) (s : State FolderValue) : Type 0 where
+    pub state : State FolderValue
     pub there : new.served.state ≡ Some state
     pub events : List Event
     pub happened : Chain Happens (watched_of old) events (watched_of new)
     pub in_order : IsToldInTurn (entries_of s.teller) events (entries_of state.teller)
 
   abbrev pub Over : Nbns C → Nbns C → Type 0
-  Over old new = (s : State Bool) → old.served.state ≡ Some s → Went old new s
+  Over old new = (s : State FolderValue) → old.served.state ≡ Some s → Went old new s
 
   joined : (old mid new : Nbns C) → Over old mid → Over mid new → Over old new
   joined old mid new first second s is =
@@ -167,7 +168,7 @@ module _ {C : Type 0} (does : Fronted PortsValue → PortCall → Fronted PortsV
         in_order = in_turn_on early.events late.events (entries_of s.teller) (entries_of early.state.teller) (entries_of late.state.teller) early.in_order late.in_order;
       }
 
-  nothing_went : (old new : Nbns C) (s : State Bool) → watched_of new ≡ watched_of old → new.served.state ≡ Some s → Went old new s
+  nothing_went : (old new : Nbns C) (s : State FolderValue) → watched_of new ≡ watched_of old → new.served.state ≡ Some s → Went old new s
   nothing_went old new s same there = record { state = s; there = there; events = []; happened = same; in_order = ([], refl, inl tt) }
 
   shows_so : (old new : Nbns C) (shown : Shown) → Shows does failures keeps tells MachineTells (Journals MachineTells Stays Stays) old shown new → Over old new
@@ -186,7 +187,7 @@ module _ {C : Type 0} (does : Fronted PortsValue → PortCall → Fronted PortsV
           acts shown.entry new.served.server (goes_well turn.took.turn shown.entry new.served.server turn.takes.server turn.logged),
           tells_chain new.served.server turned.state.waiting w.sent shown turned.state.teller _ _ _ tell,
         );
-        in_order = subst (λ (x : List Untold). IsToldInTurn (entries_of x) (acted shown.entry ∷ told_events new.served.server turned.state.waiting w.sent shown turned.state.teller) (entries_of seen.state.teller)) (ap (λ (t : State Bool). t.teller) turned.holds.1)
+        in_order = subst (λ (x : List Untold). IsToldInTurn (entries_of x) (acted shown.entry ∷ told_events new.served.server turned.state.waiting w.sent shown turned.state.teller) (entries_of seen.state.teller)) (ap (λ (t : State FolderValue). t.teller) turned.holds.1)
             (tells_in_turn new.served.server turned.state.waiting w.sent shown turned.state.teller _ _ _ tell);
       }
 
@@ -210,7 +211,7 @@ module _ {C : Type 0} (does : Fronted PortsValue → PortCall → Fronted PortsV
         there = b.there;
         events = acted None ∷ [];
         happened = (record (watched_of old) { server = new.served.server }, acts None new.served.server (broken_keeping old.served.server new.served.server b.holds.0.took b.holds.0.takes), ap watched_of broke.1);
-        in_order = ([], ap (λ (t : State Bool). entries_of t.teller) (sym b.holds.1), inl tt);
+        in_order = ([], ap (λ (t : State FolderValue). entries_of t.teller) (sym b.holds.1), inl tt);
       }
 
   renewed_so : (old new : Nbns C) → RenewsFront RenewsPort NotesNames tells old new → Over old new

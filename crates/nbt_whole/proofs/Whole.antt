@@ -1,5 +1,5 @@
 -- A whole server lives, from its start to its end.
-use Rattle.std.proofs.Common.{◌≡◌, ℕ, Bool, false, [], Some, None, refl, sym, ap, subst, ◌∙◌}
+use Rattle.std.proofs.Common.{◌≡◌, ℕ, [], Some, None, refl, sym, ap, subst, ◌∙◌}
 use Rattle.nbt_port.specs.Clocks.{MachineTells, SteadyTells, SystemShows, TellsAhead}
 use Rattle.nbt_port.specs.Until.{until_of}
 use Rattle.nbt_port.specs.declared.ahead.Ahead.{Ahead}
@@ -9,7 +9,7 @@ use Rattle.nbt_server.specs.Calls.{limited}
 use Rattle.nbt_server.specs.Serving.{ServerValue}
 use Rattle.nbt_serve.specs.Sharing.{share_of}
 use Rattle.nbt_serve.specs.Waiting.{none_waits}
-use Rattle.nbt_nbns.specs.Folders.{FolderDoes}
+use Rattle.nbt_nbns.specs.Folders.{FolderDoes, FolderValue}
 use Rattle.nbt_nbns.specs.Journaling.{Journals}
 use Rattle.nbt_nbns.specs.Places.{Stays}
 use Rattle.nbt_nbns.specs.Renewing.{NotesNames}
@@ -50,28 +50,28 @@ module _ (a : NbnsArguments) where
       (over (ap (λ (here : Nbns ℕ). here.served.state) s.first_is)).0
 
   -- with one
-  abbrev state_at_first : Begun → State Bool
-  state_at_first b = record { store = false; header = b.header; share = share_of a.changes_per_client; waiting = none_waits b.header.last; teller = [] }
+  abbrev state_at_first : Begun → FolderValue → State FolderValue
+  state_at_first b store = record { store = store; header = b.header; share = share_of a.changes_per_client; waiting = none_waits b.header.last; teller = [] }
 
   abbrev FinishedHere : Nbns (Ahead ℕ) → Nbns (Ahead ℕ) → Type 0
   FinishedHere first last = Finished (PortDoes a.strict) PortFailures FolderDoes (TellsAhead (SteadyTells SystemShows)) MachineTells (Journals MachineTells Stays Stays) NotesNames (IsHeaderOf first.served.server) (any_pair first.served.server) first last
 
-  kept_lived : StartBeginsARun → (state : StateFolder) (first last : Nbns (Ahead ℕ)) (manner : Manner) (s : StartsKept a state manner first) → FinishedHere first last → KeptIsLived a s.begun first last
-  kept_lived law state first last manner s over = subst (λ (here : Nbns (Ahead ℕ)). FinishedHere here last → KeptIsLived a s.begun here last) (sym s.first_is) from over
+  kept_lived : StartBeginsARun → (state : StateFolder) (first last : Nbns (Ahead ℕ)) (manner : Manner) (s : StartsKept a state manner first) → FinishedHere first last → KeptIsLived a s.finds.begun first last
+  kept_lived law state first last manner s over = subst (λ (here : Nbns (Ahead ℕ)). FinishedHere here last → KeptIsLived a s.finds.begun here last) (sym s.first_is) from over
     where
-      from : FinishedHere (kept_at_first a s.begun s.told.monotonic s.told.time first.text) last → KeptIsLived a s.begun (kept_at_first a s.begun s.told.monotonic s.told.time first.text) last
+      from : FinishedHere (kept_at_first a s.finds.begun s.store s.finds.told.monotonic s.finds.told.time first.text) last → KeptIsLived a s.finds.begun (kept_at_first a s.finds.begun s.store s.finds.told.monotonic s.finds.told.time first.text) last
       from over =
-          let begun = law s.found.found s.begun (Some a.rows_per_client) s.found.begins in
+          let begun = law s.finds.found.found s.finds.begun (Some a.rows_per_client) s.finds.found.begins in
           let own = begun.1 in
-          let end = over (state_at_first s.begun) refl (record { start_is = own.start; life_is = own.life; longest_is = own.longest }) in
+          let end = over (state_at_first s.finds.begun s.store) refl (record { start_is = own.start; life_is = own.life; longest_is = own.longest }) in
           record {
-            old = state_at_first s.begun;
+            old = state_at_first s.finds.begun s.store;
             new = end.state;
             was_there = refl;
             is_there = end.there;
             began = refl;
             begins = begun.0;
-            lived = work_is_lived (PortDoes a.strict) PutsFront FolderDoes (TellsAhead (SteadyTells SystemShows)) MachineTells (IsHeaderOf (limited (Some a.rows_per_client) s.begun.server)) (any_pair (limited (Some a.rows_per_client) s.begun.server)) a.config _ _ (begun_config s.found.found s.begun s.found.begins ∙ s.found.config_is) refl end.worked;
+            lived = work_is_lived (PortDoes a.strict) PutsFront FolderDoes (TellsAhead (SteadyTells SystemShows)) MachineTells (IsHeaderOf (limited (Some a.rows_per_client) s.finds.begun.server)) (any_pair (limited (Some a.rows_per_client) s.finds.begun.server)) a.config _ _ (begun_config s.finds.found.found s.finds.begun s.finds.found.begins ∙ s.finds.found.config_is) refl end.worked;
           }
 
 pub nbns_are_lived : NbnsAreLived

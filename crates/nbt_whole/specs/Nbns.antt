@@ -1,11 +1,11 @@
 -- What the contract of a whole name server says, as a life (our profile).
-use Rattle.std.specs.Prelude.{◌≡◌, ℕ, Bool, List, Option, Some}
+use Rattle.std.specs.Prelude.{◌≡◌, ℕ, List, Option, Some}
 use Rattle.nbt_port.specs.Clocks.{SteadyTells, SystemShows, TellsAhead}
 use Rattle.nbt_port.specs.declared.ahead.Ahead.{Ahead}
 use Rattle.nbt_port.specs.declared.fault.Fault.{Fault}
 use Rattle.nbt_store.specs.declared.beginning.Begun.{Begun}
 use Rattle.nbt_serve.specs.Runs.{Begins}
-use Rattle.nbt_nbns.specs.Folders.{FolderDoes}
+use Rattle.nbt_nbns.specs.Folders.{FolderDoes, FolderValue}
 use Rattle.nbt_nbns.specs.Running.{Nbns, PortDoes, RunsNbns, NbnsFails}
 use Rattle.nbt_nbns.specs.Servers.{RunsKept, KeptFails}
 use Rattle.nbt_nbns.specs.Staying.{Served, keeping_of}
@@ -39,8 +39,8 @@ FailedNbnsAreLived = (a : NbnsArguments) (old_text text : Option (List ℕ)) →
 -- A server with a state lived from what it began as to what it was last; it has a state then too. A run begins with what it began as, with its
 -- limit of clients. Each new file is begun with a header of that server: with its start, its life and its longest lease.
 pub record KeptIsLived (a : NbnsArguments) (begun : Begun) (first last : Nbns (Ahead ℕ)) : Type 0 where
-  pub old : State Bool
-  pub new : State Bool
+  pub old : State FolderValue
+  pub new : State FolderValue
   pub was_there : first.served.state ≡ Some old
   pub is_there : last.served.state ≡ Some new
   pub began : held_in (keeping_of first.served old) ≡ held_of (Some a.rows_per_client) begun
@@ -49,7 +49,7 @@ pub record KeptIsLived (a : NbnsArguments) (begun : Begun) (first last : Nbns (A
 
 -- So it does until its time is over, or until its port fails for good, or its store fails.
 abbrev pub KeptAreLived : Type 0
-KeptAreLived = (a : NbnsArguments) (state : StateFolder) (old_text text : Option (List ℕ)) → (ran : RunsKept a state old_text text) → KeptIsLived a ran.begins.begun ran.first ran.last
+KeptAreLived = (a : NbnsArguments) (state : StateFolder) (old_text text : Option (List ℕ)) → (ran : RunsKept a state old_text text) → KeptIsLived a ran.begins.finds.begun ran.first ran.last
 
 abbrev pub FailedKeptAreLived : Type 0
-FailedKeptAreLived = (a : NbnsArguments) (state : StateFolder) (why : Fault) (old_text text : Option (List ℕ)) → (ran : KeptFails a state why old_text text) → KeptIsLived a ran.begins.begun ran.first ran.last
+FailedKeptAreLived = (a : NbnsArguments) (state : StateFolder) (why : Fault) (old_text text : Option (List ℕ)) → (ran : KeptFails a state why old_text text) → KeptIsLived a ran.begins.finds.begun ran.first ran.last

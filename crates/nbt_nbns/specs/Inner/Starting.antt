@@ -1,5 +1,5 @@
 -- How a name server begins, before its port serves (private functions alone).
-use Rattle.std.specs.Prelude.{◌≡◌, ◌≢◌, ◌⊎◌, ℕ, Bool, List, Option}
+use Rattle.std.specs.Prelude.{◌≡◌, ◌≢◌, ◌⊎◌, ℕ, List, Option}
 use Rattle.std.specs.Io.KnownBytes.{Appends}
 use Rattle.nbt_name.specs.declared.addr.Addr.{Addr}
 use Rattle.nbt_lease.specs.Lease.{Rows}
@@ -7,6 +7,7 @@ use Rattle.nbt_port.specs.Clocks.{MachineTells, SteadyTells, SteadyBegins, Syste
 use Rattle.nbt_port.specs.declared.fault.Fault.{Fault}
 use Rattle.nbt_port.specs.declared.fault.Fault.TheVariants.{Device, Output}
 use Rattle.nbt_nbns.specs.Begin.{IsBegin}
+use Rattle.nbt_nbns.specs.Folders.{FolderValue}
 use Rattle.nbt_nbns.specs.Places.{FileValue}
 use Rattle.nbt_nbns.specs.Running.{Nbns, port_at_first}
 use Rattle.nbt_nbns.specs.Staying.{Staying}
@@ -21,7 +22,7 @@ abbrev pub staying_of : {P S C D V : Type 0} → P → Started S C D V → Optio
 staying_of port s text = record { served = record { port = port; clock = s.clock; server = s.server; state = s.state }; day = s.day; watcher = s.journal; text = text }
 
 -- It begins as `starts` says, with these leases in the way of fixed names, and the first line is printed.
-pub record Starts {C : Type 0} (starts : Manner → Nbns C → Type 0) (a : NbnsArguments) (standing : Rows) (old_text text : Option (List ℕ)) (s : Started Bool C ℕ (Journal ℕ FileValue)) : Type 0 where
+pub record Starts {C : Type 0} (starts : Manner → Nbns C → Type 0) (a : NbnsArguments) (standing : Rows) (old_text text : Option (List ℕ)) (s : Started FolderValue C ℕ (Journal ℕ FileValue)) : Type 0 where
   pub at : List Addr
   pub manner : Manner
   pub line : List ℕ

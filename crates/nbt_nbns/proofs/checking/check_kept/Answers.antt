@@ -1,13 +1,10 @@
-use Rattle.std.proofs.Common.{None, refl}
 use Rattle.std.proofs.lemmas.Result.{err_from_is_err_and}
-use Rattle.nbt_nbns.specs.Servers.{kept_at_first}
 use Rattle.nbt_nbns.proofs.Beginning.{are_read}
 use Rattle.nbt_nbns.proofs.Checks.{for_clock, for_files, for_folder, not_said, not_without}
 use Rattle.nbt_nbns.proofs.checking.check_kept.Goals as goal
 
 pub returns-clause-ok : goal.returns-clause-ok
 returns-clause-ok g c =
-    let a = c.args.arguments.now in
     let clocks = c.in_ok-clocks.clocks in
     let begun = c.in_ok-begun.begun in
     let here = are_read clocks.steady clocks.told clocks.day c.in_ok-clocks.ensures.ok in
@@ -15,22 +12,18 @@ returns-clause-ok g c =
     record {
       manner = c.in_ok-manner.manner;
       line = said.0;
-      would = (
-        kept_at_first a begun clocks.told.monotonic clocks.told.time None,
-        record {
-          boot = here.boot;
-          told = clocks.told;
-          day = here.day_before;
-          begun = begun;
-          clock_begins = here.begins;
-          before_told = here.before_told;
-          monotonic_told = here.monotonic_told;
-          time_told = here.time_told;
-          found = c.in_ok-begun.ensures.ok;
-          manner_is = c.in_ok-manner.ensures.ok;
-          first_is = refl;
-        },
-      );
+      would = record {
+        boot = here.boot;
+        told = clocks.told;
+        day = here.day_before;
+        begun = begun;
+        clock_begins = here.begins;
+        before_told = here.before_told;
+        monotonic_told = here.monotonic_told;
+        time_told = here.time_told;
+        found = c.in_ok-begun.ensures.ok;
+        manner_is = c.in_ok-manner.ensures.ok;
+      };
       is_line = said.1;
       printed = said.2;
       no_lock = λ none. not_without c.args.state.now none;

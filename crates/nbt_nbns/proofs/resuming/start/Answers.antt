@@ -23,18 +23,22 @@ returns-clause-ok g c =
       manner = manner_of a.config.longest begun.start begun.server.last (dates_of begun clocks.told.time) (length (live_rows begun.server)) begun.reason;
       line = line.1;
       begins = record {
-        boot = here.boot;
-        told = clocks.told;
-        day = here.day_before;
-        begun = begun;
-        clock_begins = here.begins;
-        before_told = here.before_told;
-        monotonic_told = here.monotonic_told;
-        time_told = here.time_told;
-        found = c.in_ok-begun.ensures.ok;
-        manner_is = refl;
+        finds = record {
+          boot = here.boot;
+          told = clocks.told;
+          day = here.day_before;
+          begun = begun;
+          clock_begins = here.begins;
+          before_told = here.before_told;
+          monotonic_told = here.monotonic_told;
+          time_told = here.time_told;
+          found = c.in_ok-begun.ensures.ok;
+          manner_is = refl;
+        };
+        store = opened.store;
+        opened = c.in_ok-opened.ensures.store;
         first_is = is_kept_at_first a begun clocks.told.monotonic clocks.told.time opened.store clocks.steady clocks.day c.new-share.result c.in_ok-waiting.waiting c.in_ok-teller.teller c.in_ok-journal.journal c.kept_of-kept.result c.standing_of-standing.result.items _
-            c.in_ok-opened.ensures.store read.monotonic_told.keeps read.time_told.0 c.new-share.ensures c.in_ok-waiting.ensures c.in_ok-teller.ensures c.in_ok-journal.ensures.journal c.kept_of-kept.ensures
+            read.monotonic_told.keeps read.time_told.0 c.new-share.ensures c.in_ok-waiting.ensures c.in_ok-teller.ensures c.in_ok-journal.ensures.journal c.kept_of-kept.ensures
             (c.standing_of-standing.ensures ∙ ap (λ (rows : Rows). in_the_way a.front.fixed rows) c.in_ok-opened.ensures.rows);
       };
       is_first = rw (← c.in_ok-opened.ensures.rows, ← counted) line.2;
