@@ -23,11 +23,13 @@ use Rattle.nbt_store.specs.declared.resuming.Going.{Going}
 use Rattle.nbt_store.specs.declared.silence.Onward.{Onward}
 use Rattle.nbt_store.specs.declared.silence.Seen.{Seen}
 use Rattle.nbt_store.specs.declared.times.Times.{Times}
-use Rattle.nbt_store.specs.DiskCalls.{DiskCall}
+use Rattle.nbt_store.specs.DiskCalls.{DiskCall, created, installed}
+use Rattle.nbt_store.specs.DiskStores.{tail_of}
 use Rattle.nbt_serve.specs.Runs.{last_left, live_rows, stored_in}
 use Rattle.nbt_net.specs.Again.{NextStart, StartBeginsARun, held_of, kept_of}
-use Rattle.nbt_net.specs.Headers.{Headed, headed, header_beside, headed_by, headed_after, header_left, AllBeginWith, BeginsWith, CrashLeavesTheHeader, DiskNextStart, Finds, IsHeaderOf, StartFindsLeft}
+use Rattle.nbt_net.specs.Headers.{Headed, headed, header_beside, headed_by, headed_after, header_left, AllBeginWith, BeginsWith, CrashLeavesTheFile, CrashLeavesTheHeader, DiskNextStart, FileNextStart, Finds, IsHeaderOf, StartFindsLeft}
 use Rattle.nbt_net.specs.Starts.{FindsLeft}
+use Rattle.nbt_net.proofs.HeadersLeft.{AsksInTurn, asked_since, opened_so}
 use Rattle.nbt_net.proofs.RunsWell.{run_went_well}
 use Rattle.nbt_net.proofs.Started.{FileHasOneReading}
 
@@ -59,14 +61,14 @@ are_after : (ran : ServerValue) (calls : List StoreCall) (now : Headed) → AllB
 are_after ran [] now own are = are
 are_after ran (call ∷ calls) now own are = are_after ran calls (headed_by call now) own.1 (are_by ran call now own.0 are)
 
-first_of_all : (ran : ServerValue) (calls others : List StoreCall) → AllBeginWith (IsHeaderOf ran) (calls ++ others) → AllBeginWith (IsHeaderOf ran) calls
-first_of_all ran [] others own = tt
-first_of_all ran (call ∷ calls) others own = (own.0, first_of_all ran calls others own.1)
+pub first_of_all : (own : Header → Type 0) (calls others : List StoreCall) → AllBeginWith own (calls ++ others) → AllBeginWith own calls
+first_of_all own [] others all_own = tt
+first_of_all own (call ∷ calls) others all_own = (all_own.0, first_of_all own calls others all_own.1)
 
 header_of_left : (ran : ServerValue) (first : Header) (rows : Rows) (calls : List StoreCall) (left : List Change) (may : MayLeaveAfter (kept_rows first.last rows) calls left) → IsHeaderOf ran first → AllBeginWith (IsHeaderOf ran) calls → IsHeaderOf ran (header_left first may)
 header_of_left ran first rows calls left (first_changes may) is own = (are_after ran calls (headed first) own (record { file = is; beside = tt })).file
 header_of_left ran first rows calls left (as_drafted before draft e there left_is) is own =
-    let are = are_after ran before (headed first) (first_of_all ran before (renewal_failed ∷ []) (subst (AllBeginWith (IsHeaderOf ran)) e own)) (record { file = is; beside = tt }) in
+    let are = are_after ran before (headed first) (first_of_all (IsHeaderOf ran) before (renewal_failed ∷ []) (subst (AllBeginWith (IsHeaderOf ran)) e own)) (record { file = is; beside = tt }) in
     header_of_both ran first (headed_after before (headed first)).beside is are.beside
 
 -- ---- a start that goes on has the limits of the file
@@ -137,20 +139,26 @@ finds_left does one law ran header rows disk opened store calls is chain well ow
 
 -- ---- lives, one after another
 
-pub disk_next_start : {D : Type 0} (does : D → DiskCall → D → Type 0) → FileHasOneReading → CrashLeavesTheHeader does → StartBeginsARun → NextStart → DiskNextStart does
-disk_next_start does one law begins_run next config acts began b clients new seen begins way runs limits before behind are disk opened store is chain all_own =
+pub file_next_start : FileHasOneReading → CrashLeavesTheFile → StartBeginsARun → NextStart → FileNextStart
+file_next_start one law begins_run next config acts began b clients new seen begins way runs limits before behind are text sum asked last is in_turn all_own octets crash =
+    let ran : ServerValue = (held_of clients b).server in
     let own = (begins_run began b clients begins).1 in
-    let header : IsHeaderOf (held_of clients b).server b.header = record { start_is = own.start; life_is = own.life; longest_is = own.longest } in
-    let so = finds_left does one law (held_of clients b).server b.header (live_rows b.server) disk opened store (stored_in before) is chain (run_went_well (held_of clients b) new seen runs before behind are) header all_own in (
-      so.0,
-      so.1,
-      λ folder octets crash.
-          let left = so.2 folder octets crash in
-          let onward = next config acts (kept_of b) b.header.last (held_of clients b) new seen way runs limits before behind left.0 are left.1 in (
-            left.0,
-            left.1,
-            onward.0,
-            λ at f later rows found begun.
-                (λ none. (left.2 f later found begun none, (onward.1 at f later rows begun).0 (left.2 f later found begun none) none), (onward.1 at f later rows begun).1),
-          ),
+    let header : IsHeaderOf ran b.header = record { start_is = own.start; life_is = own.life; longest_is = own.longest } in
+    let left = law b.header (live_rows b.server) text sum (stored_in before) asked last is in_turn (run_went_well (held_of clients b) new seen runs before behind are) octets crash in
+    let found : (f : Found) (later : Begun) → Finds f octets → BeginsAs f later → later.reason ≡ None → FindsLeft ran (last_left b.header.last left.may) left.changes f =
+    finds one ran (last_left b.header.last left.may) left.changes octets (header_left b.header left.may) left.end left.file left.last_is (header_of_left ran b.header (live_rows b.server) (stored_in before) left.changes left.may header all_own) in
+    let onward = next config acts (kept_of b) b.header.last (held_of clients b) new seen way runs limits before behind left.changes are left.may in (
+      left.changes,
+      left.may,
+      onward.0,
+      λ at f later rows finds_it begun.
+          (λ none. (found f later finds_it begun none, (onward.1 at f later rows begun).0 (found f later finds_it begun none) none), (onward.1 at f later rows begun).1),
+    )
+
+pub disk_next_start : {D : Type 0} (does : D → DiskCall → D → Type 0) → AsksInTurn does → FileNextStart → DiskNextStart does
+disk_next_start does in_turn law config acts began b clients new seen begins way runs limits before behind are disk opened store is chain all_own =
+    let a = asked_since does in_turn b.header (live_rows b.server) disk opened store (stored_in before) is chain in (
+      created is.text ∷ installed ∷ a.0,
+      a.1,
+      λ folder octets crash. law config acts began b clients new seen begins way runs limits before behind are is.text is.sum a.0 (tail_of store) is.new_file a.2 all_own octets (opened_so folder is.text a.0 octets crash),
     )

@@ -1,6 +1,6 @@
--- The header of the file that a crash leaves, in step with the changes that it leaves.
+-- The header of the file that a crash leaves, in step with the changes that it leaves; and a crash within the opening of a store.
 use Rattle.std.proofs.Common.{◌≡◌, ◌≢◌, ◌∙◌, ℕ, false, Option, Some, None, List, [], ◌∷◌, ◌++◌, length, inl, inr, ap, sym, subst, refl, append_assoc, append-nil}
-use Rattle.std.specs.Prelude.{⊤}
+use Rattle.std.specs.Prelude.{◌⊎◌, ⊤}
 use Rattle.std.specs.List.{AllByRecursion}
 use Rattle.std.specs.Option.{option_map}
 use Rattle.std.proofs.lemmas.List.{take_all}
@@ -17,9 +17,8 @@ use Rattle.nbt_store.specs.declared.change.Change.{Change}
 use Rattle.nbt_store.specs.declared.disk_store.DiskStore.{DiskStore}
 use Rattle.nbt_store.specs.declared.form.Form.TheVariants.{Three}
 use Rattle.nbt_store.specs.declared.header.Header.{Header}
-use Rattle.nbt_net.specs.Headers.{Headed, headed, header_beside, headed_by, headed_after, all_of_them, but_the_last, CrashLeavesTheHeader, IsLeftBy}
+use Rattle.nbt_net.specs.Headers.{Headed, headed, header_beside, headed_by, headed_after, all_of_them, but_the_last, AsksToOpen, nothing_yet, not_made, made, was_not_installed, was_installed, CrashLeavesTheFile, CrashLeavesTheHeader, CrashWithinAnOpening, IsLeftBy, IsOpened}
 use Rattle.nbt_net.proofs.Headed.{HasHead, Heads, HeadsNew, head_of_cut, head_more, asked_append, heads_in_turn, heads_at_first, in_step, in_step_at_first, last_is_left}
-use Rattle.nbt_net.proofs.Ordering.{chain_split}
 
 -- ---- the laws below
 
@@ -83,7 +82,7 @@ well_then : (before : List StoreCall) (last : StoreCall) → WentWell before →
 well_then [] last well is = (is, tt)
 well_then (x ∷ before) last well is = (well.0, well_then before last well.1 is)
 
-same_end : (a b : List StoreCall) (x y : StoreCall) → a ++ x ∷ [] ≡ b ++ y ∷ [] → x ≡ y
+same_end : {A : Type 0} (a b : List A) (x y : A) → a ++ x ∷ [] ≡ b ++ y ∷ [] → x ≡ y
 same_end [] [] x y e = cc
 same_end [] (z ∷ []) x y e = absurd cc
 same_end [] (z ∷ w ∷ b) x y e = absurd cc
@@ -265,10 +264,60 @@ module _ (between : LeavesBetween) (within : LeavesWithin) (text : List ℕ) (h 
   left_within next sync_failed tail octets asks crash = not_synced next tail octets asks crash
   left_within next renewal_failed tail octets asks crash = stopped tail octets asks crash
 
--- ---- a store that was opened
+-- ---- calls that all went well, but maybe the last
+
+-- what the first calls asked, and what the last one did
+record SplitsTurn (before : List StoreCall) (call : StoreCall) (old new : Tail) (asked : List DiskCall) : Type 0 where
+  mid : Tail
+  first : List DiskCall
+  tail : List DiskCall
+  in_turn : AskInTurn before old first mid
+  asks : Asks call mid tail new
+  asked_are : asked ≡ first ++ tail
+
+none_asked : (calls : List StoreCall) (old new : Tail) (asked : List DiskCall) → AskInTurn calls old asked new → calls ≡ [] → (asked ≡ []) × (new ≡ old)
+none_asked _ _ _ _ (nothing_asked at) is = (refl, refl)
+none_asked _ _ _ _ (one_more_asks call calls old mid new asked others asks in_turn) is = absurd cc
+
+turn_split : (calls : List StoreCall) (old new : Tail) (asked : List DiskCall) → AskInTurn calls old asked new → (before : List StoreCall) (call : StoreCall) → calls ≡ before ++ call ∷ [] → SplitsTurn before call old new asked
+turn_split _ _ _ _ (nothing_asked at) [] call e = absurd cc
+turn_split _ _ _ _ (nothing_asked at) (x ∷ before) call e = absurd cc
+turn_split _ _ _ _ (one_more_asks c calls old mid new asked others asks in_turn) [] call e =
+    let same : c ≡ call = cc in
+    let rest : calls ≡ [] = cc in
+    let none = none_asked calls mid new others in_turn rest in
+    record {
+      mid = old;
+      first = [];
+      tail = asked;
+      in_turn = nothing_asked old;
+      asks = subst (λ (x : StoreCall). Asks x old asked new) same (subst (λ (t : Tail). Asks c old asked t) (sym none.1) asks);
+      asked_are = ap (λ (xs : List DiskCall). asked ++ xs) none.0 ∙ append-nil asked;
+    }
+turn_split _ _ _ _ (one_more_asks c calls old mid new asked others asks in_turn) (x ∷ before) call e =
+    let same : c ≡ x = cc in
+    let rest : calls ≡ before ++ call ∷ [] = cc in
+    let on = turn_split calls mid new others in_turn before call rest in
+    record {
+      mid = on.mid;
+      first = asked ++ on.first;
+      tail = on.tail;
+      in_turn = subst (λ (y : StoreCall). AskInTurn (y ∷ before) old (asked ++ on.first) on.mid) same (one_more_asks c before old mid on.mid asked on.first asks on.in_turn);
+      asks = on.asks;
+      asked_are = ap (λ (xs : List DiskCall). asked ++ xs) on.asked_are ∙ sym (append_assoc asked on.first on.tail);
+    }
+
+pub leaves_the_file : LeavesBetween → LeavesWithin → CrashLeavesTheFile
+leaves_the_file between within header rows text sum calls asked last new in_turn (all_of_them well) octets crash = left_first header rows calls octets (left_between between text header rows sum new last calls asked octets in_turn well crash)
+leaves_the_file between within header rows text sum calls asked last new in_turn (but_the_last before call e well) octets crash =
+    let split = turn_split calls (tail_at sum) last asked in_turn before call e in
+    subst (λ (cs : List StoreCall). IsLeftBy header rows cs octets) (sym e)
+    (left_within between within text header rows sum new split.mid before split.first split.in_turn well last call split.tail octets split.asks (subst (λ (xs : List DiskCall). CrashLeaves (folder_of text) xs octets) split.asked_are crash))
+
+-- ---- a store that is opened
 
 -- what was there before is gone
-opened_so : (folder : Folder) (text : List ℕ) (asked : List DiskCall) (octets : List ℕ) → CrashLeaves folder (created text ∷ installed ∷ asked) octets → CrashLeaves (folder_of text) asked octets
+pub opened_so : (folder : Folder) (text : List ℕ) (asked : List DiskCall) (octets : List ℕ) → CrashLeaves folder (created text ∷ installed ∷ asked) octets → CrashLeaves (folder_of text) asked octets
 opened_so folder text asked octets (old_file cut) = old_file cut
 opened_so folder text asked octets (new_file [] new e some cut) = absurd cc
 opened_so folder text asked octets (new_file (x ∷ []) new e some cut) = absurd cc
@@ -277,21 +326,49 @@ opened_so folder text asked octets (new_file (x ∷ y ∷ before) new e some cut
 abbrev pub AsksInTurn : {D : Type 0} → (D → DiskCall → D → Type 0) → Type 0
 AsksInTurn {D} does = (old new : DiskStore D) (calls : List StoreCall) → Chain (StoreDoes does) old calls new → (asked : List DiskCall) × Chain does (disk_of old) asked (disk_of new) × AskInTurn calls (tail_of old) asked (tail_of new)
 
-pub leaves_the_header : {D : Type 0} (does : D → DiskCall → D → Type 0) → AsksInTurn does → LeavesBetween → LeavesWithin → CrashLeavesTheHeader does
-leaves_the_header does in_turn between within header rows disk opened store calls is chain (all_of_them well) =
-    let a = in_turn opened store calls chain in
-    let so : AskInTurn calls (tail_at is.sum) a.0 (tail_of store) = subst (λ (t : Tail). AskInTurn calls t a.0 (tail_of store)) is.goes_on a.2 in (
-      created is.text ∷ installed ∷ a.0,
+-- what such a store asked since
+pub asked_since : {D : Type 0} (does : D → DiskCall → D → Type 0) → AsksInTurn does → (header : Header) (rows : Rows) (disk : D) (opened store : DiskStore D) (calls : List StoreCall) (is : IsOpened does header rows disk opened) → Chain (StoreDoes does) opened calls store
+    → (asked : List DiskCall) × Chain does disk (created is.text ∷ installed ∷ asked) (disk_of store) × AskInTurn calls (tail_at is.sum) asked (tail_of store)
+asked_since does in_turn header rows disk opened store calls is chain =
+    let a = in_turn opened store calls chain in (
+      a.0,
       chain-append does disk (disk_of opened) (disk_of store) (created is.text ∷ installed ∷ []) a.0 is.did a.1,
-      λ folder octets crash. left_first header rows calls octets (left_between between is.text header rows is.sum is.new_file (tail_of store) calls a.0 octets so well (opened_so folder is.text a.0 octets crash)),
+      subst (λ (t : Tail). AskInTurn calls t a.0 (tail_of store)) is.goes_on a.2,
     )
-leaves_the_header does in_turn between within header rows disk opened store calls is chain (but_the_last before last e well) =
-    let split = chain_split (StoreDoes does) before (last ∷ []) opened store (subst (λ (cs : List StoreCall). Chain (StoreDoes does) opened cs store) e chain) in
-    let a = in_turn opened split.0 before split.1 in
-    let did : StoreDoes does split.0 last store = subst (StoreDoes does split.0 last) (sym split.2.2) split.2.1 in
-    let so : AskInTurn before (tail_at is.sum) a.0 (tail_of split.0) = subst (λ (t : Tail). AskInTurn before t a.0 (tail_of split.0)) is.goes_on a.2 in (
-      created is.text ∷ installed ∷ (a.0 ++ did.asked),
-      chain-append does disk (disk_of opened) (disk_of store) (created is.text ∷ installed ∷ []) (a.0 ++ did.asked) is.did (chain-append does (disk_of opened) (disk_of split.0) (disk_of store) a.0 did.asked a.1 did.chain),
-      λ folder octets crash. subst (λ (cs : List StoreCall). IsLeftBy header rows cs octets) (sym e)
-          (left_within between within is.text header rows is.sum is.new_file (tail_of split.0) before a.0 so well (tail_of store) last did.asked octets did.asks (opened_so folder is.text (a.0 ++ did.asked) octets crash)),
-    )
+
+pub leaves_the_header : {D : Type 0} (does : D → DiskCall → D → Type 0) → AsksInTurn does → CrashLeavesTheFile → CrashLeavesTheHeader does
+leaves_the_header does in_turn law header rows disk opened store calls is chain well =
+    let a = asked_since does in_turn header rows disk opened store calls is chain in
+    (created is.text ∷ installed ∷ a.0, a.1, λ folder octets crash. law header rows is.text is.sum calls a.0 (tail_of store) is.new_file a.2 well octets (opened_so folder is.text a.0 octets crash))
+
+-- ---- within the opening
+
+-- the whole of a file that is durable
+whole_cut : (text octets : List ℕ) → IsCutOf (record { octets = text; synced = length text }) octets → octets ≡ text
+whole_cut text octets cut = cut.left_is ∙ take_all cut.size text cut.at_least
+
+module _ (folder : Folder) (asked : List DiskCall) (text octets : List ℕ) where
+  abbrev there : Folder
+  there = after_disk_calls asked folder
+
+  -- the file is as it was
+  still : (opening : List DiskCall) → (after_disk_calls opening there).file ≡ there.file → IsCutOf (after_disk_calls (asked ++ opening) folder).file octets → CrashLeaves folder asked octets
+  still opening same cut = old_file (subst (λ (w : Written). IsCutOf w octets) (ap (λ (f : Folder). f.file) (asked_append asked opening folder) ∙ same) cut)
+
+  within_opening : (opening : List DiskCall) → AsksToOpen text opening → CrashLeaves folder (asked ++ opening) octets → CrashLeaves folder asked octets ⊎ (octets ≡ text)
+  within_opening _ nothing_yet crash = inl (subst (λ (xs : List DiskCall). CrashLeaves folder xs octets) (append-nil asked) crash)
+  within_opening _ not_made (old_file cut) = inl (still (create_failed text ∷ []) refl cut)
+  within_opening _ made (old_file cut) = inl (still (created text ∷ []) refl cut)
+  within_opening _ was_not_installed (old_file cut) = inl (still (created text ∷ install_failed ∷ []) refl cut)
+  within_opening _ was_installed (old_file cut) = inr (whole_cut text octets (subst (λ (f : Folder). IsCutOf f.file octets) (asked_append asked (created text ∷ installed ∷ []) folder) cut))
+  within_opening _ not_made (new_file before new e some cut) = let clash = same_end asked before (create_failed text) install_failed e in absurd cc
+  within_opening _ made (new_file before new e some cut) = let clash = same_end asked before (created text) install_failed e in absurd cc
+  within_opening _ was_not_installed (new_file before new e some cut) =
+      let is : Some (record { octets = text; synced = length text }) ≡ Some new = ap (λ (f : Folder). f.beside) (sym (asked_append asked (created text ∷ install_failed ∷ []) folder)) ∙ some in
+      let same : record { octets = text; synced = length text } ≡ new = cc in
+      inr (whole_cut text octets (subst (λ (w : Written). IsCutOf w octets) (sym same) cut))
+  within_opening _ was_installed (new_file before new e some cut) =
+      let clash = same_end (asked ++ created text ∷ []) before installed install_failed (append_assoc asked (created text ∷ []) (installed ∷ []) ∙ e) in absurd cc
+
+pub crash_within_an_opening : CrashWithinAnOpening
+crash_within_an_opening folder asked opening text octets opens crash = within_opening folder asked text octets opening opens crash

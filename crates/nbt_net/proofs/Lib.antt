@@ -29,7 +29,7 @@ mod ServerTurns
 mod Restarts
 mod HostsLater
 -- calls of several devices in one order, and parts of a life with them
-mod Ordering
+pub mod Ordering
 mod Parts
 -- a life that is cut off
 mod Cutting
@@ -62,9 +62,9 @@ mod Surely
 mod Readying
 mod NewWire
 mod Beginning
--- the header that a crash of a disk leaves, and what a start finds then
+-- the header that a crash of a file and of a disk leaves, and what a start finds then
 mod Headed
 mod HeadersLeft
 mod StoreCalls
 mod RunsWell
-mod Finding
+pub mod Finding

@@ -1,5 +1,5 @@
 -- The header of the file that a crash leaves, and what a start finds then (our profile).
-use Rattle.std.specs.Prelude.{◌≡◌, ℕ, ⊤, List, [], ◌∷◌, ◌++◌, map, Option, Some, None}
+use Rattle.std.specs.Prelude.{◌≡◌, ◌⊎◌, ℕ, ⊤, List, [], ◌∷◌, ◌++◌, map, Option, Some, None}
 use Rattle.std.specs.Borrow.{Bor}
 use Rattle.std.specs.List.{AllByRecursion}
 use Rattle.nbt_lease.specs.Config.{ConfigValue, IsConfig}
@@ -8,9 +8,9 @@ use Rattle.nbt_port.specs.PortCalls.{Chain}
 use Rattle.nbt_server.specs.Serving.{ServerValue}
 use Rattle.nbt_store.specs.Beginning.{BeginsAs}
 use Rattle.nbt_store.specs.Calls.{StoreCall, renewal_began, renewed, Kept, kept_rows, MayLeaveAfter, first_changes, as_drafted, WentWell}
-use Rattle.nbt_store.specs.Crashes.{CrashLeaves, Folder}
-use Rattle.nbt_store.specs.DiskCalls.{DiskCall, created, installed}
-use Rattle.nbt_store.specs.DiskStores.{IsNewFile, StoreDoes, disk_of, tail_at, tail_of}
+use Rattle.nbt_store.specs.Crashes.{CrashLeaves, Folder, folder_of}
+use Rattle.nbt_store.specs.DiskCalls.{DiskCall, created, create_failed, installed, install_failed}
+use Rattle.nbt_store.specs.DiskStores.{AskInTurn, IsNewFile, StoreDoes, Tail, disk_of, tail_at, tail_of}
 use Rattle.nbt_store.specs.Lines.{IsFile}
 use Rattle.nbt_store.specs.declared.beginning.Begun.{Begun}
 use Rattle.nbt_store.specs.declared.change.Change.{Change}
@@ -69,7 +69,31 @@ pub record IsLeftBy (first : Header) (rows : Rows) (calls : List StoreCall) (oct
   pub file : IsFile octets Three (header_left first may) changes end
   pub last_is : (header_left first may).last ≡ last_left first.last may
 
--- ---- a store that was opened
+-- calls that all went well, but maybe the last
+pub data AllButLast (calls : List StoreCall) : Type 0 where
+  all_of_them : WentWell calls → AllButLast calls
+  but_the_last : (before : List StoreCall) (last : StoreCall) → calls ≡ before ++ last ∷ [] → WentWell before → AllButLast calls
+
+-- A file was written anew with this header and these leases. Calls of a store went on from it, and asked this of its disk. Then whatever a crash
+-- leaves of it has the header that goes with its changes.
+abbrev pub CrashLeavesTheFile : Type 0
+CrashLeavesTheFile = (header : Header) (rows : Rows) (text : List ℕ) (sum : ℕ) (calls : List StoreCall) (asked : List DiskCall) (last : Tail) → IsNewFile text header rows sum → AskInTurn calls (tail_at sum) asked last → AllButLast calls
+    → (octets : List ℕ) → CrashLeaves (folder_of text) asked octets → IsLeftBy header rows calls octets
+
+-- ---- a store that is opened
+
+-- what the opening of a store asks of its disk up to a crash: nothing yet; a new file of these octets, which was made or not; and that it takes
+-- the file's place, which it did or not
+pub data AsksToOpen (text : List ℕ) : List DiskCall → Type 0 where
+  nothing_yet : AsksToOpen text []
+  not_made : AsksToOpen text (create_failed text ∷ [])
+  made : AsksToOpen text (created text ∷ [])
+  was_not_installed : AsksToOpen text (created text ∷ install_failed ∷ [])
+  was_installed : AsksToOpen text (created text ∷ installed ∷ [])
+
+-- A crash within it leaves what a crash before it leaves, or the whole new file.
+abbrev pub CrashWithinAnOpening : Type 0
+CrashWithinAnOpening = (folder : Folder) (asked opening : List DiskCall) (text octets : List ℕ) → AsksToOpen text opening → CrashLeaves folder (asked ++ opening) octets → CrashLeaves folder asked octets ⊎ (octets ≡ text)
 
 -- A store was opened over a disk, with this header and these leases: it made a new file of them, which took the place of the file.
 pub record IsOpened {D : Type 0} (does : D → DiskCall → D → Type 0) (header : Header) (rows : Rows) (disk : D) (store : DiskStore D) : Type 0 where
@@ -78,11 +102,6 @@ pub record IsOpened {D : Type 0} (does : D → DiskCall → D → Type 0) (heade
   pub new_file : IsNewFile text header rows sum
   pub did : Chain does disk (created text ∷ installed ∷ []) (disk_of store)
   pub goes_on : tail_of store ≡ tail_at sum
-
--- calls that all went well, but maybe the last
-pub data AllButLast (calls : List StoreCall) : Type 0 where
-  all_of_them : WentWell calls → AllButLast calls
-  but_the_last : (before : List StoreCall) (last : StoreCall) → calls ≡ before ++ last ∷ [] → WentWell before → AllButLast calls
 
 -- A store was opened over a disk, and called since. Then whatever a crash leaves of that disk, in whichever folder, has the header that goes
 -- with its changes.
@@ -121,15 +140,27 @@ StartFindsLeft {D} does = (ran : ServerValue) (header : Header) (rows : Rows) (d
 
 -- ---- lives, one after another
 
--- A server began, and keeps its leases in a store over a disk, which was opened with what it began with. It ran, and crashed at or within any
--- call of its devices. Whatever that left of the disk, the next start that finds it goes on with it, or begins anew; and so does each one behind it.
+-- These octets are what a crash left, behind these calls, of a server that began so and lived by these acts before. The next start that finds them
+-- goes on with that server, or begins anew; and it is under way then as that one was.
+abbrev pub NextGoesOn : (config : ConfigValue) → List Act → Begun → (clients : Option ℕ) → List Seen → (before : List DeviceCall) → (octets : List ℕ) → Type 0
+NextGoesOn config acts b clients seen before octets = (left : List Change) × (may : MayLeaveAfter (kept_of b) (stored_in before) left) × (cut : IsCutShort config (held_of clients b).server (turns_in seen) (gone_in before) (last_left b.header.last may) left)
+    × ((at : ℕ) (f : Found) (next : Begun) (rows : Option ℕ) → Finds f octets → BeginsAs f next
+    → (next.reason ≡ None → (found : FindsLeft (held_of clients b).server (last_left b.header.last may) left f) × (HasNotGoneBack found cut.earlier.server next → (later : ResumesLater cut.earlier.server (last_left b.header.last may) left f next)
+    × IsUnderWay config (map (later_act later.shift) (acts ++ (acts_before cut.earlier ++ act_at at ∷ [])) ++ acts_of_start next) (kept_of next) next.header.last (held_of rows next)))
+    × ((reason : Reason) → f.config.life ≡ config.life → f.config.longest ≡ config.longest → next.reason ≡ Some reason → IsUnderWay config ((acts ++ (acts_before cut.earlier ++ act_at at ∷ [])) ++ acts_of_start next) (kept_of next) next.header.last (held_of rows next)))
+
+-- A server began, and its file was written anew with what it began with. It ran, and crashed at or within any call of its devices. Up to there the
+-- calls of its store asked this of the disk. Whatever that left of the file, the next start that finds it goes on with it, or begins anew; and so does
+-- each one behind it.
+abbrev pub FileNextStart : Type 0
+FileNextStart = (config : ConfigValue) (acts : List Act) (began : Found) (b : Begun) (clients : Option ℕ) (new : Held) (seen : List Seen) → BeginsAs began b → IsUnderWay config acts (kept_of b) b.header.last (held_of clients b) → Runs (held_of clients b) seen new → IsConfig config
+    → (before behind : List DeviceCall) → calls_in seen ≡ before ++ behind
+    → (text : List ℕ) (sum : ℕ) (asked : List DiskCall) (last : Tail) → IsNewFile text b.header (live_rows b.server) sum → AskInTurn (stored_in before) (tail_at sum) asked last → AllBeginWith (IsHeaderOf (held_of clients b).server) (stored_in before)
+    → (octets : List ℕ) → CrashLeaves (folder_of text) asked octets → NextGoesOn config acts b clients seen before octets
+
+-- So it is where its store is over a disk, and was opened with what it began with.
 abbrev pub DiskNextStart : {D : Type 0} → (D → DiskCall → D → Type 0) → Type 0
 DiskNextStart {D} does = (config : ConfigValue) (acts : List Act) (began : Found) (b : Begun) (clients : Option ℕ) (new : Held) (seen : List Seen) → BeginsAs began b → IsUnderWay config acts (kept_of b) b.header.last (held_of clients b) → Runs (held_of clients b) seen new → IsConfig config
     → (before behind : List DeviceCall) → calls_in seen ≡ before ++ behind
     → (disk : D) (opened store : DiskStore D) → IsOpened does b.header (live_rows b.server) disk opened → Chain (StoreDoes does) opened (stored_in before) store → AllBeginWith (IsHeaderOf (held_of clients b).server) (stored_in before)
-    → (asked : List DiskCall) × Chain does disk asked (disk_of store) × ((folder : Folder) (octets : List ℕ) → CrashLeaves folder asked octets
-    → (left : List Change) × (may : MayLeaveAfter (kept_of b) (stored_in before) left) × (cut : IsCutShort config (held_of clients b).server (turns_in seen) (gone_in before) (last_left b.header.last may) left)
-    × ((at : ℕ) (f : Found) (next : Begun) (rows : Option ℕ) → Finds f octets → BeginsAs f next
-    → (next.reason ≡ None → (found : FindsLeft (held_of clients b).server (last_left b.header.last may) left f) × (HasNotGoneBack found cut.earlier.server next → (later : ResumesLater cut.earlier.server (last_left b.header.last may) left f next)
-    × IsUnderWay config (map (later_act later.shift) (acts ++ (acts_before cut.earlier ++ act_at at ∷ [])) ++ acts_of_start next) (kept_of next) next.header.last (held_of rows next)))
-    × ((reason : Reason) → f.config.life ≡ config.life → f.config.longest ≡ config.longest → next.reason ≡ Some reason → IsUnderWay config ((acts ++ (acts_before cut.earlier ++ act_at at ∷ [])) ++ acts_of_start next) (kept_of next) next.header.last (held_of rows next))))
+    → (asked : List DiskCall) × Chain does disk asked (disk_of store) × ((folder : Folder) (octets : List ℕ) → CrashLeaves folder asked octets → NextGoesOn config acts b clients seen before octets)

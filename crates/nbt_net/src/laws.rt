@@ -28,7 +28,7 @@ ghost use Rattle.nbt_net.specs.Clocks.{counted, place_reads};
 ghost use Rattle.nbt_net.specs.Devices.{Call, Story, no_story, AreActs, IsCutAt};
 ghost use Rattle.nbt_net.specs.Fronts.{AreThrough};
 ghost use Rattle.nbt_net.specs.Getting.{NetworkGets, NewNetworkGets, RequestGets};
-ghost use Rattle.nbt_net.specs.Headers.{CrashLeavesTheHeader, DiskNextStart, StartFindsLeft};
+ghost use Rattle.nbt_net.specs.Headers.{CrashLeavesTheFile, CrashLeavesTheHeader, CrashWithinAnOpening, DiskNextStart, FileNextStart, StartFindsLeft};
 ghost use Rattle.nbt_net.specs.Hosting.{HostsAreLived, FailedHostsAreLived, HostsHereAreLived, FailedHostsHereAreLived};
 ghost use Rattle.nbt_net.specs.Hosts.{HostLives};
 ghost use Rattle.nbt_net.specs.Lives.{Network, NetworkIsARun, NoTwoHold};
@@ -160,18 +160,40 @@ pub fn a_server_lives_over_any_number_of_crashes()
     nbt_server::laws::a_shifted_server_does_the_same();
 }
 
-/// Whatever a crash leaves of a disk, by the premise on it, after a store was opened over it and called, is a file with the header that goes with
-/// its changes: that of the opening, or of the last new file that took the file's place; or, within the call at which one does, of either of the
-/// two. All calls went well, but maybe the last, at or within which the crash came.
-pub fn a_crash_leaves_the_header_that_was_written<D: Disk>()
-    ensures { CrashLeavesTheHeader D.does }
+/// Whatever a crash leaves of a file, by the premise on disks, after it was written anew with a header and leases and calls of a store went on
+/// from it, is a file with the header that goes with its changes: the one with which it was written, or that of the last new file that took its
+/// place; or, within the call at which one does, either of the two. All calls went well, but maybe the last, at or within which the crash came
+/// (`left`). Within the opening of a store a crash leaves what one before it leaves, or the whole new file, of which `left` speaks where no call came
+/// since (`opening`).
+pub fn a_crash_leaves_the_file_that_was_written()
+    ensures left { CrashLeavesTheFile }
+    ensures opening { CrashWithinAnOpening }
 {
-    nbt_store::laws::calls_of_a_store_ask_in_turn::<D>();
     nbt_store::laws::a_crash_of_the_disk_leaves_what_calls_may_leave();
 }
 
+/// So is what a crash leaves of a disk, after a store was opened over it and called.
+pub fn a_crash_leaves_the_header_that_was_written<D: Disk>()
+    ensures { CrashLeavesTheHeader D.does }
+{
+    a_crash_leaves_the_file_that_was_written();
+    nbt_store::laws::calls_of_a_store_ask_in_turn::<D>();
+}
+
+/// So a server whose file was written anew with what it began with lives over any number of crashes, each at or within any call of its devices:
+/// the next start that finds what the crash left of the file goes on with that server, or begins anew, and what holds as one begins holds as the
+/// next one does. It is a premise that each new file was begun with a header of that server, with its start, its life and its longest lease, and
+/// that the calls of its store asked of the disk what such calls ask. `nbt_whole` says of a whole server that they did.
+pub fn a_start_finds_the_file_that_was_written()
+    ensures { FileNextStart }
+{
+    a_crash_leaves_the_file_that_was_written();
+    a_server_lives_over_any_number_of_crashes();
+    nbt_store::laws::a_file_has_one_reading();
+}
+
 /// So a start that finds what a crash left of a server's disk, and goes on, finds what that server left, with its start, its life and its longest
-/// lease (`found`). It is a premise that each new file was begun with a header that has these. `nbt_whole` says of a whole server that it was. And so
+/// lease (`found`). It is a premise that each new file was begun with a header that has these. And so
 /// a server whose store is over a disk lives over any number of crashes, each at or within any call of its devices: what holds as it begins holds as
 /// it begins again (`next`).
 /// Where the file's own clock goes on, it is a premise that it hasn't gone back (`HasNotGoneBack`).
@@ -180,7 +202,8 @@ pub fn a_start_finds_what_the_disk_kept<D: Disk>()
     ensures next { DiskNextStart D.does }
 {
     a_crash_leaves_the_header_that_was_written::<D>();
-    a_server_lives_over_any_number_of_crashes();
+    a_start_finds_the_file_that_was_written();
+    nbt_store::laws::calls_of_a_store_ask_in_turn::<D>();
     nbt_store::laws::a_file_has_one_reading();
 }
 
