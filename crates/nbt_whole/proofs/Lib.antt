@@ -4,6 +4,8 @@
 mod Unfolded
 -- and so is a whole one, from its start to its end
 mod Whole
+-- over crashes
+mod Onwards
 -- what is shown of some turns, and then of others
 mod Showing
 -- a server that stays up is watched, one thing after another

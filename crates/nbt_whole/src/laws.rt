@@ -1,7 +1,7 @@
 //! A whole name server lives in a network, and is watched: each law is the contract of a function that does nothing.
 
 ghost use Rattle.nbt_whole.specs.Aging.{LeasesAreRecent, HostsAreRecent, StatisticsAreRecent};
-ghost use Rattle.nbt_whole.specs.Nbns.{NbnsAreLived, FailedNbnsAreLived, KeptAreLived, FailedKeptAreLived};
+ghost use Rattle.nbt_whole.specs.Nbns.{NbnsAreLived, FailedNbnsAreLived, KeptAreLived, FailedKeptAreLived, KeptGoOn, FailedKeptGoOn};
 ghost use Rattle.nbt_whole.specs.Watched.{NbnsAreWatched, FailedNbnsAreWatched, KeptAreWatched, FailedKeptAreWatched};
 ghost use Rattle.nbt_whole.specs.Printed.{EachLineIsPrintedOrCounted};
 ghost use Rattle.nbt_whole.specs.Said.{WhatIsWatchedIsSaid, RunsBeginNew};
@@ -20,6 +20,18 @@ pub fn a_whole_server_is_lived()
     ensures kept_failed { FailedKeptAreLived }
 {
     nbt_net::laws::a_server_lives_over_any_number_of_crashes();
+}
+
+/// And so a server with a state goes on over any number of crashes, end to end. By the contract of [`nbt_nbns::run_server`] it wrote the file in its folder anew, with the header
+/// and the live leases with which it began, and each call of its store asks of the disk what such a call asks. So, by the premise on disks, whatever a crash leaves of
+/// that file, behind any of its calls or within it, is what the next start goes on from, with this server's start, its life and its longest lease; or it
+/// begins anew. What held as this server began holds as the next one does. So it is until its time is over (`kept`), or its port or its store fails (`kept_failed`).
+pub fn a_server_with_a_state_goes_on()
+    ensures kept { KeptGoOn }
+    ensures kept_failed { FailedKeptGoOn }
+{
+    a_whole_server_is_lived();
+    nbt_net::laws::a_start_finds_the_file_that_was_written();
 }
 
 /// The journal of a name server, which is its log, its lists and its statistics, is shown the turns of the server. Without a state it is shown the entry of each
