@@ -25,7 +25,7 @@ IsDue None now = ⊤
 IsDue (Some looked) now = looked + milliseconds 1 ≤ now
 
 -- A look, where `IsText` says which text there is to keep: not before a second has passed since the last. The place is given the text
--- where it has another one, and may refuse it. Where memory was refused, the place and its text stay.
+-- where it has another one, and may refuse it. Where memory was refused, the place and its text stay; that it was, no contract can say.
 pub data Keeps {L : Type 0} (puts refuses : L → List ℕ → L → Type 0) (IsText : List ℕ → Type 0) (now : ℕ) (old : KeeperValue L) : Kept → KeeperValue L → Type 0 where
   early : ¬ IsDue old.looked now → Keeps puts refuses IsText now old k.Early old
   same : (text : List ℕ) → IsDue old.looked now → IsText text → old.text ≡ Some text → Keeps puts refuses IsText now old k.Same (record old { looked = Some now })

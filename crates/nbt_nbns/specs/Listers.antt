@@ -32,7 +32,8 @@ next_draft None listing rows now = one_part_more (new_draft listing now rows)
 next_draft (Some draft) listing rows now = one_part_more draft
 
 -- A look, where a listing of these rows is to be kept: not before it is due. One part more of a list is made. Once that is whole, the place is given its
--- text where it has another one, and may refuse it. Where memory was refused, the place and its text stay. A list that failed is lost.
+-- text where it has another one, and may refuse it. Where memory was refused, the place and its text stay; that it was, no contract can say. A list that
+-- failed is lost.
 pub data ListsOn {L : Type 0} (puts refuses : L → List ℕ → L → Type 0) (listing : ListingValue) (rows : Rows) (now : ℕ) (old : ListerValue L) : Kept → ListerValue L → Type 0 where
   early : ¬ IsLookDue old.looked old.draft now → ListsOn puts refuses listing rows now old k.Early old
   unfinished : IsLookDue old.looked old.draft now → ¬ IsWhole (next_draft old.draft listing rows now)

@@ -1,27 +1,25 @@
 -- What the counts, the lists and the statistics say after any events.
 use Rattle.std.proofs.Common.{◌≡◌, ℕ, Bool, true, false, List, [], ◌∷◌, ◌++◌, length, ◌==◌, if◌then◌else◌, Option, Some, None, IfSome, String, refl, sym, ap, subst, ◌∙◌, append-nil, append_assoc}
-use Rattle.nbt_port.specs.Clocks.{MachineTells}
 use Rattle.nbt_port.specs.PortCalls.{Chain}
 use Rattle.nbt_lease.specs.Lease.{Rows}
-use Rattle.nbt_log.specs.Drafts.{ListingValue, IsListing, DraftValue, new_draft, one_part_noted, one_part_listed, listed_if_noted, one_part_more, IsDraftText}
-use Rattle.nbt_log.specs.Tallies.{counted, no_outcomes, no_refusals}
+use Rattle.nbt_log.specs.Drafts.{ListingValue, IsListing, DraftValue, new_draft, one_part_noted, one_part_listed, one_part_more, IsDraftText}
+use Rattle.nbt_log.specs.Tallies.{counted}
 use Rattle.nbt_log.specs.declared.entry.Entry.{Entry}
 use Rattle.nbt_log.specs.declared.tally.Tally.{Tally}
-use Rattle.nbt_nbns.specs.Journaling.{Journals, ListsIn, not_listed, listed, KeepsIn, not_kept, looked}
+use Rattle.nbt_nbns.specs.Journaling.{ListsIn, not_listed, listed, KeepsIn, not_kept, looked}
 use Rattle.nbt_nbns.specs.Keeping.{KeeperValue, Keeps}
 use Rattle.nbt_nbns.specs.Keeping as keep
 use Rattle.nbt_nbns.specs.Listers.{ListerValue, ListsOn, next_draft}
 use Rattle.nbt_nbns.specs.Listers as list
 use Rattle.nbt_nbns.specs.Places.{FileValue, Stays}
-use Rattle.nbt_nbns.specs.Reports.{SaysStats}
-use Rattle.nbt_nbns.specs.Running.{new_journal, lister_of, keeper_of, place_of}
+use Rattle.nbt_nbns.specs.Running.{lister_of, keeper_of, place_of}
 use Rattle.nbt_nbns.specs.declared.content.Content.{Content}
 use Rattle.nbt_nbns.specs.declared.content.Content.TheVariants as content
 use Rattle.nbt_nbns.specs.declared.journal.Journal.{Journal}
 use Rattle.nbt_nbns.specs.declared.keeper.Kept.{Kept}
 use Rattle.nbt_nbns.specs.declared.staying.Shown.{Shown}
 use Rattle.nbt_whole.specs.Watched.{Watched, Event, acted, was_shown, were_fixed, Happens, acts, sees, notes, with_entry, told}
-use Rattle.nbt_whole.specs.Said.{IsNew, WasOnce, leases_then, hosts_then, Lists, ReportsStats, listed_in, kept_in, outcomes_after, refusals_after, Says, WhatIsWatchedIsSaid}
+use Rattle.nbt_whole.specs.Said.{IsNew, WasOnce, leases_then, hosts_then, Lists, ReportsStats, listed_in, kept_in, outcomes_after, refusals_after, WhatIsWatchedIsSaid}
 use Rattle.nbt_whole.proofs.Showing.{chain_on}
 
 -- ---- the counts

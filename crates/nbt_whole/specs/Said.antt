@@ -10,7 +10,6 @@ use Rattle.nbt_log.specs.declared.tally.OutcomeCounts.{OutcomeCounts}
 use Rattle.nbt_log.specs.declared.tally.RefusalCounts.{RefusalCounts}
 use Rattle.nbt_nbns.specs.Keeping.{KeeperValue}
 use Rattle.nbt_nbns.specs.Listers.{ListerValue}
-use Rattle.nbt_nbns.specs.Places.{FileValue}
 use Rattle.nbt_nbns.specs.Reports.{SaysStats}
 use Rattle.nbt_nbns.specs.Running.{Nbns, StartsAnew, new_journal}
 use Rattle.nbt_nbns.specs.Servers.{StartsKept}
