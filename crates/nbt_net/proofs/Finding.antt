@@ -1,6 +1,7 @@
 -- A start that finds what a crash left of a disk.
-use Rattle.std.proofs.Common.{◌≡◌, ◌∙◌, ℕ, not, nat_eq, false, true, Bool, Option, Some, None, List, [], ◌∷◌, ◌++◌, Result, Ok, Err, if◌then◌else◌, refl, sym, subst}
-use Rattle.std.specs.Prelude.{⊤}
+use Rattle.std.proofs.Common.{◌≡◌, ◌∙◌, ℕ, not, nat_eq, false, true, Bool, Option, Some, None, List, [], ◌∷◌, ◌++◌, Result, Ok, Err, if◌then◌else◌, length, inl, inr, refl, sym, subst, arith}
+use Rattle.std.proofs.lemmas.List.{take_all}
+use Rattle.std.specs.Prelude.{◌⊎◌, ⊤}
 use Rattle.std.specs.Borrow.{Bor}
 use Rattle.std.proofs.lemmas.Bool.{eqb-true}
 use Rattle.nbt_lease.specs.Config.{ConfigValue}
@@ -24,10 +25,11 @@ use Rattle.nbt_store.specs.declared.silence.Onward.{Onward}
 use Rattle.nbt_store.specs.declared.silence.Seen.{Seen}
 use Rattle.nbt_store.specs.declared.times.Times.{Times}
 use Rattle.nbt_store.specs.DiskCalls.{DiskCall, created, installed}
-use Rattle.nbt_store.specs.DiskStores.{tail_of}
-use Rattle.nbt_serve.specs.Runs.{last_left, live_rows, stored_in}
+use Rattle.nbt_store.specs.Crashes.{CrashLeaves, folder_of, old_file}
+use Rattle.nbt_store.specs.DiskStores.{nothing_asked, tail_at, tail_of}
+use Rattle.nbt_serve.specs.Runs.{goes_on, last_left, live_rows, stored_in}
 use Rattle.nbt_net.specs.Again.{NextStart, StartBeginsARun, held_of, kept_of}
-use Rattle.nbt_net.specs.Headers.{Headed, headed, header_beside, headed_by, headed_after, header_left, AllBeginWith, BeginsWith, CrashLeavesTheFile, CrashLeavesTheHeader, DiskNextStart, FileNextStart, Finds, IsHeaderOf, StartFindsLeft}
+use Rattle.nbt_net.specs.Headers.{Headed, headed, header_beside, headed_by, headed_after, header_left, AllBeginWith, BeginsWith, CrashLeavesTheFile, CrashLeavesTheHeader, CrashWithinAnOpening, DiskNextStart, FileNextStart, Finds, IsHeaderOf, NextGoesOn, OpeningNextStart, StartFindsLeft}
 use Rattle.nbt_net.specs.Starts.{FindsLeft}
 use Rattle.nbt_net.proofs.HeadersLeft.{AsksInTurn, asked_since, opened_so}
 use Rattle.nbt_net.proofs.RunsWell.{run_went_well}
@@ -154,6 +156,18 @@ file_next_start one law begins_run next config acts began b clients new seen beg
       λ at f later rows finds_it begun.
           (λ none. (found f later finds_it begun none, (onward.1 at f later rows begun).0 (found f later finds_it begun none) none), (onward.1 at f later rows begun).1),
     )
+
+-- a whole file, of which nothing is lost
+pub whole_left : (text octets : List ℕ) → octets ≡ text → CrashLeaves (folder_of text) [] octets
+whole_left text octets same = old_file (record { size = length text; at_least = omega arith; left_is = same ∙ sym (take_all (length text) text (omega arith)) })
+
+pub opening_next_start : CrashWithinAnOpening → FileNextStart → OpeningNextStart
+opening_next_start within law config acts began b clients begins way limits text sum is folder asked opening octets opens crash = by (within folder asked opening text octets opens crash)
+  where
+    by : CrashLeaves folder asked octets ⊎ (octets ≡ text) → CrashLeaves folder asked octets ⊎ NextGoesOn config acts b clients [] [] octets
+    by (inl before) = inl before
+    by (inr same) =
+        inr (law config acts began b clients (held_of clients b) [] begins way (goes_on [] (held_of clients b) refl) limits [] [] refl text sum [] (tail_at sum) is (nothing_asked (tail_at sum)) tt octets (whole_left text octets same))
 
 pub disk_next_start : {D : Type 0} (does : D → DiskCall → D → Type 0) → AsksInTurn does → FileNextStart → DiskNextStart does
 disk_next_start does in_turn law config acts began b clients new seen begins way runs limits before behind are disk opened store is chain all_own =

@@ -158,6 +158,13 @@ FileNextStart = (config : ConfigValue) (acts : List Act) (began : Found) (b : Be
     → (text : List ℕ) (sum : ℕ) (asked : List DiskCall) (last : Tail) → IsNewFile text b.header (live_rows b.server) sum → AskInTurn (stored_in before) (tail_at sum) asked last → AllBeginWith (IsHeaderOf (held_of clients b).server) (stored_in before)
     → (octets : List ℕ) → CrashLeaves (folder_of text) asked octets → NextGoesOn config acts b clients seen before octets
 
+-- A server began, and crashed as it wrote its file anew, within the opening of its store. What that left of the file is what a crash before it leaves,
+-- as if it had not begun; or the next start that finds it goes on with this server, which did nothing yet, or begins anew.
+abbrev pub OpeningNextStart : Type 0
+OpeningNextStart = (config : ConfigValue) (acts : List Act) (began : Found) (b : Begun) (clients : Option ℕ) → BeginsAs began b → IsUnderWay config acts (kept_of b) b.header.last (held_of clients b) → IsConfig config
+    → (text : List ℕ) (sum : ℕ) → IsNewFile text b.header (live_rows b.server) sum → (folder : Folder) (asked opening : List DiskCall) (octets : List ℕ) → AsksToOpen text opening → CrashLeaves folder (asked ++ opening) octets
+    → CrashLeaves folder asked octets ⊎ NextGoesOn config acts b clients [] [] octets
+
 -- So it is where its store is over a disk, and was opened with what it began with.
 abbrev pub DiskNextStart : {D : Type 0} → (D → DiskCall → D → Type 0) → Type 0
 DiskNextStart {D} does = (config : ConfigValue) (acts : List Act) (began : Found) (b : Begun) (clients : Option ℕ) (new : Held) (seen : List Seen) → BeginsAs began b → IsUnderWay config acts (kept_of b) b.header.last (held_of clients b) → Runs (held_of clients b) seen new → IsConfig config

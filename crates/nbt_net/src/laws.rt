@@ -28,7 +28,7 @@ ghost use Rattle.nbt_net.specs.Clocks.{counted, place_reads};
 ghost use Rattle.nbt_net.specs.Devices.{Call, Story, no_story, AreActs, IsCutAt};
 ghost use Rattle.nbt_net.specs.Fronts.{AreThrough};
 ghost use Rattle.nbt_net.specs.Getting.{NetworkGets, NewNetworkGets, RequestGets};
-ghost use Rattle.nbt_net.specs.Headers.{CrashLeavesTheFile, CrashLeavesTheHeader, CrashWithinAnOpening, DiskNextStart, FileNextStart, StartFindsLeft};
+ghost use Rattle.nbt_net.specs.Headers.{CrashLeavesTheFile, CrashLeavesTheHeader, CrashWithinAnOpening, DiskNextStart, FileNextStart, OpeningNextStart, StartFindsLeft};
 ghost use Rattle.nbt_net.specs.Hosting.{HostsAreLived, FailedHostsAreLived, HostsHereAreLived, FailedHostsHereAreLived};
 ghost use Rattle.nbt_net.specs.Hosts.{HostLives};
 ghost use Rattle.nbt_net.specs.Lives.{Network, NetworkIsARun, NoTwoHold};
@@ -183,9 +183,12 @@ pub fn a_crash_leaves_the_header_that_was_written<D: Disk>()
 /// So a server whose file was written anew with what it began with lives over any number of crashes, each at or within any call of its devices:
 /// the next start that finds what the crash left of the file goes on with that server, or begins anew, and what holds as one begins holds as the
 /// next one does. It is a premise that each new file was begun with a header of that server, with its start, its life and its longest lease, and
-/// that the calls of its store asked of the disk what such calls ask. `nbt_whole` says of a whole server that they did.
+/// that the calls of its store asked of the disk what such calls ask. `nbt_whole` says of a whole server that they did (`next`). Where the crash comes
+/// as the file is being written anew, within the opening of a store, it leaves what one before it leaves; or the new file, and the next start goes on with
+/// the server that began with it, which did nothing yet, or begins anew (`opening`).
 pub fn a_start_finds_the_file_that_was_written()
-    ensures { FileNextStart }
+    ensures next { FileNextStart }
+    ensures opening { OpeningNextStart }
 {
     a_crash_leaves_the_file_that_was_written();
     a_server_lives_over_any_number_of_crashes();

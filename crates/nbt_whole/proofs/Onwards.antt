@@ -21,7 +21,7 @@ use Rattle.nbt_nbns.specs.declared.first_line.Manner.{Manner}
 use Rattle.nbt_nbns.specs.declared.state.State.{State}
 use Rattle.nbt_net.specs.Again.{held_of}
 use Rattle.nbt_net.specs.Devices.{Call, of_port, reads, of_store, Machine, MachineDoes, StoreDoes, devices_in}
-use Rattle.nbt_net.specs.Headers.{AllBeginWith, FileNextStart, IsHeaderOf}
+use Rattle.nbt_net.specs.Headers.{AllBeginWith, FileNextStart, IsHeaderOf, OpeningNextStart}
 use Rattle.nbt_net.specs.Working.{DoesChanged, PutsFront, held_in}
 use Rattle.nbt_net.proofs.Finding.{first_of_all}
 use Rattle.nbt_net.proofs.Ordering.{stored-append}
@@ -56,7 +56,7 @@ asked_of (call ∷ calls) old new chain =
 
 -- ---- a server
 
-module _ (law : FileNextStart) (a : NbnsArguments) (state : StateFolder) (first last : Nbns (Ahead ℕ)) (manner : Manner) (s : StartsKept a state manner first) (k : KeptIsLived a s.finds.begun first last) where
+module _ (law : FileNextStart) (opening_law : OpeningNextStart) (a : NbnsArguments) (state : StateFolder) (first last : Nbns (Ahead ℕ)) (manner : Manner) (s : StartsKept a state manner first) (k : KeptIsLived a s.finds.begun first last) where
   -- the store is at first as it was opened
   store_is : k.old.store ≡ s.store
   store_is = ap (λ (here : State FolderValue). here.store) (same_Some k.old _ (sym k.was_there ∙ ap (λ (here : Nbns (Ahead ℕ)). here.served.state) s.first_is))
@@ -87,10 +87,12 @@ module _ (law : FileNextStart) (a : NbnsArguments) (state : StateFolder) (first 
         next = λ config acts limits way before behind are asked mid in_turn octets crash.
             law config acts s.finds.found.found s.finds.begun (Some a.rows_per_client) (held_in (keeping_of last.served k.new)) k.lived.seen s.finds.found.begins way runs limits before behind are s.opened.text s.opened.sum asked mid s.opened.new_file in_turn
             (own before behind are) octets crash;
+        opens = λ config acts limits way folder asked opening octets opens crash.
+            opening_law config acts s.finds.found.found s.finds.begun (Some a.rows_per_client) s.finds.found.begins way limits s.opened.text s.opened.sum s.opened.new_file folder asked opening octets opens crash;
       }
 
-pub kept_go_on : FileNextStart → KeptAreLived → KeptGoOn
-kept_go_on law lived a state old_text text ran = goes_on law a state ran.first ran.last ran.manner ran.begins (lived a state old_text text ran)
+pub kept_go_on : FileNextStart → OpeningNextStart → KeptAreLived → KeptGoOn
+kept_go_on law opening_law lived a state old_text text ran = goes_on law opening_law a state ran.first ran.last ran.manner ran.begins (lived a state old_text text ran)
 
-pub failed_kept_go_on : FileNextStart → FailedKeptAreLived → FailedKeptGoOn
-failed_kept_go_on law lived a state why old_text text ran = goes_on law a state ran.first ran.last ran.manner ran.begins (lived a state why old_text text ran)
+pub failed_kept_go_on : FileNextStart → OpeningNextStart → FailedKeptAreLived → FailedKeptGoOn
+failed_kept_go_on law opening_law lived a state why old_text text ran = goes_on law opening_law a state ran.first ran.last ran.manner ran.begins (lived a state why old_text text ran)

@@ -1,11 +1,11 @@
 -- What the contract of a whole name server says, as a life (our profile).
-use Rattle.std.specs.Prelude.{◌≡◌, ℕ, List, ◌++◌, Option, Some}
+use Rattle.std.specs.Prelude.{◌≡◌, ◌⊎◌, ℕ, List, [], ◌++◌, Option, Some}
 use Rattle.nbt_lease.specs.Config.{ConfigValue, IsConfig}
 use Rattle.nbt_port.specs.Clocks.{SteadyTells, SystemShows, TellsAhead}
 use Rattle.nbt_port.specs.declared.ahead.Ahead.{Ahead}
 use Rattle.nbt_port.specs.declared.fault.Fault.{Fault}
 use Rattle.nbt_store.specs.declared.beginning.Begun.{Begun}
-use Rattle.nbt_store.specs.Crashes.{CrashLeaves, folder_of}
+use Rattle.nbt_store.specs.Crashes.{CrashLeaves, Folder, folder_of}
 use Rattle.nbt_store.specs.DiskCalls.{DiskCall}
 use Rattle.nbt_store.specs.DiskStores.{AskInTurn, Tail, tail_at}
 use Rattle.nbt_serve.specs.Devices.{DeviceCall}
@@ -19,7 +19,7 @@ use Rattle.nbt_nbns.specs.declared.arguments.StateFolder.{StateFolder}
 use Rattle.nbt_nbns.specs.declared.state.State.{State}
 use Rattle.nbt_net.specs.Again.{IsUnderWay, held_of, kept_of}
 use Rattle.nbt_net.specs.BareWorking.{Bare, BareWorkIsLived}
-use Rattle.nbt_net.specs.Headers.{IsHeaderOf, NextGoesOn}
+use Rattle.nbt_net.specs.Headers.{AsksToOpen, IsHeaderOf, NextGoesOn}
 use Rattle.nbt_net.specs.Wire.{Act}
 use Rattle.nbt_net.specs.Working.{PutsFront, held_in, WorkIsLived}
 
@@ -64,13 +64,16 @@ FailedKeptAreLived = (a : NbnsArguments) (state : StateFolder) (why : Fault) (ol
 
 -- What the calls of its store asked of its disk is what such calls ask, one after the other, behind the file that it wrote as it began (`asks`). So a
 -- server that was under way as it began is so over a crash, at or within any call of its devices, by the premise on disks: the next start
--- that finds what the crash left of that file goes on with this server, or begins anew (`next`).
+-- that finds what the crash left of that file goes on with this server, or begins anew (`next`). Where the crash came as that file was being written, it
+-- left what one before it leaves, or the same holds (`opens`).
 pub record KeptGoesOn (a : NbnsArguments) (begun : Begun) (store : FolderValue) (opened : IsOpenedWith begun.header (live_rows begun.server) store) (first last : Nbns (Ahead ℕ)) : Type 0 where
   pub kept : KeptIsLived a begun first last
   pub asks : (asked : List DiskCall) × AskInTurn (stored_in (calls_in kept.lived.seen)) (tail_at opened.sum) asked kept.new.store.tail
   pub next : (config : ConfigValue) (acts : List Act) → IsConfig config → IsUnderWay config acts (kept_of begun) begun.header.last (held_of (Some a.rows_per_client) begun)
       → (before behind : List DeviceCall) → calls_in kept.lived.seen ≡ before ++ behind → (asked : List DiskCall) (mid : Tail) → AskInTurn (stored_in before) (tail_at opened.sum) asked mid
       → (octets : List ℕ) → CrashLeaves (folder_of opened.text) asked octets → NextGoesOn config acts begun (Some a.rows_per_client) kept.lived.seen before octets
+  pub opens : (config : ConfigValue) (acts : List Act) → IsConfig config → IsUnderWay config acts (kept_of begun) begun.header.last (held_of (Some a.rows_per_client) begun)
+      → (folder : Folder) (asked opening : List DiskCall) (octets : List ℕ) → AsksToOpen opened.text opening → CrashLeaves folder (asked ++ opening) octets → CrashLeaves folder asked octets ⊎ NextGoesOn config acts begun (Some a.rows_per_client) [] [] octets
 
 -- So it is until its time is over, or until its port fails for good, or its store fails.
 abbrev pub KeptGoOn : Type 0

@@ -25,7 +25,8 @@ pub fn a_whole_server_is_lived()
 /// And so a server with a state goes on over any number of crashes, end to end. By the contract of [`nbt_nbns::run_server`] it wrote the file in its folder anew, with the header
 /// and the live leases with which it began, and each call of its store asks of the disk what such a call asks. So, by the premise on disks, whatever a crash leaves of
 /// that file, behind any of its calls or within it, is what the next start goes on from, with this server's start, its life and its longest lease; or it
-/// begins anew. What held as this server began holds as the next one does. So it is until its time is over (`kept`), or its port or its store fails (`kept_failed`).
+/// begins anew. What held as this server began holds as the next one does. A crash as that file is being written leaves what one before it leaves, or the same
+/// holds. So it is until its time is over (`kept`), or its port or its store fails (`kept_failed`).
 pub fn a_server_with_a_state_goes_on()
     ensures kept { KeptGoOn }
     ensures kept_failed { FailedKeptGoOn }
