@@ -7,7 +7,6 @@ use Rattle.nbt_port.specs.declared.ahead.Ahead.{Ahead}
 use Rattle.nbt_store.specs.Calls.{StoreCall}
 use Rattle.nbt_store.specs.DiskCalls.{DiskCall}
 use Rattle.nbt_store.specs.DiskStores.{AskInTurn, nothing_asked, one_more_asks, Tail, tail_at}
-use Rattle.nbt_store.specs.declared.header.Header.{Header}
 use Rattle.nbt_server.specs.Serving.{ServerValue}
 use Rattle.nbt_serve.specs.Devices.{DeviceCall}
 use Rattle.nbt_serve.specs.Runs.{Held, Runs, calls_in, stored_in}
