@@ -1,0 +1,6 @@
+pub mod Inner
+pub mod Steps
+pub mod Ids
+pub mod Desk
+pub mod Port
+pub mod Attending
