@@ -26,10 +26,13 @@ use Rattle.nbt_confirm.specs.Further.{kept_at}
 use Rattle.nbt_confirm.specs.Inquiries.{MachineValue, inquiry_form, way_of}
 use Rattle.nbt_confirm.specs.Waiting.{Hears, is_to_repeat, is_unanswered, next_begun, next_to_ask, repeated, waits_most}
 use Rattle.nbt_waits.specs.declared.asking.Asking.{Asking}
+use Rattle.nbt_waits.specs.declared.note.Note.{Note}
+use Rattle.nbt_waits.specs.declared.tally.AskTally.{AskTally}
 use Rattle.nbt_waits.specs.Doing.{Done, Sent, by_way}
 use Rattle.nbt_waits.specs.Lapsing.{Follows, Wakes, passes_on}
 use Rattle.nbt_waits.specs.Looking.{IsLookedAt, LooksFirst, nothing, aside, back}
 use Rattle.nbt_waits.specs.Settling.{Serves, ServesSilence, holds_back}
+use Rattle.nbt_waits.specs.Tally.{counted}
 use Rattle.nbt_asking.specs.Desk.{route_of}
 use Rattle.nbt_asking.specs.Port.{AskingPortValue}
 use Rattle.nbt_asking.specs.Steps.{AsMany, NoneIsLeft}
@@ -62,12 +65,17 @@ with_asking asking old = record old { desk = record old.desk { asking = asking }
 abbrev pub with_pending : List Pending → Asking → Asking
 with_pending pending old = record old { waits = record old.waits { pending = pending } }
 
--- such a thing is done, and all that leaves of it is sent
+-- what is noted of a request is counted
+abbrev pub tallied : Option Note → AskTally → AskTally
+tallied None old = old
+tallied (Some note) old = counted note.asked old
+
+-- such a thing is done, all that leaves of it is sent, and what is noted of it is counted
 pub record DoesSo {P I : Type 0} (does : P → PortCall → P → Type 0) (what : Asking → Done → Type 0) (old new : AskingPortValue P I) : Type 0 where
   pub done : Done
   pub did : what old.desk.asking done
   pub port_did : Chain (TriesToSend does) old.port (datagrams done.sends) new.port
-  pub new_is : new ≡ record (with_asking done.asking old) { port = new.port }
+  pub new_is : new ≡ record (with_asking done.asking old) { port = new.port; tally = tallied done.note old.tally }
 
 -- such things are done as long as there are any, and so many at most
 abbrev pub DoesAll : {P I : Type 0} → (most : ℕ) → (P → PortCall → P → Type 0) → (Asking → Done → Type 0) → AskingPortValue P I → AskingPortValue P I → Type 0
@@ -77,7 +85,7 @@ DoesAll most does what = AsMany most (DoesSo does what) (NoneIsLeft (DoesSo does
 
 -- a claim that came so is looked at: it waits for what its sender says, or it comes to the server
 pub data LooksAtClaim {P I : Type 0} (table : TableValue) (now : ℕ) (c : Came) (octets : List ℕ) (old : AskingPortValue P I) : AskingPortValue P I → Type 0 where
-  waits : (done : Done) → LooksFirst table now c octets old.desk.asking done → LooksAtClaim table now c octets old (record old { desk = record old.desk { aside = nothing; asking = done.asking } })
+  waits : (done : Done) → LooksFirst table now c octets old.desk.asking done → LooksAtClaim table now c octets old (record old { desk = record old.desk { aside = nothing; asking = done.asking }; tally = tallied done.note old.tally })
   comes_back : ((done : Done) → ¬ LooksFirst table now c octets old.desk.asking done) → LooksAtClaim table now c octets old (record old { desk = record old.desk { aside = back c octets } })
 
 abbrev pub heard : {P I : Type 0} → List Pending → AskingPortValue P I → AskingPortValue P I

@@ -3,14 +3,16 @@ use Rattle.std.specs.Prelude.{ℕ, List, Option, Some, None, Result, Ok}
 use Rattle.nbt_port.specs.declared.port.Device.{Device}
 use Rattle.nbt_port.specs.declared.port.Route.{Route}
 use Rattle.nbt_port.specs.PortCalls.{PortCall, came, receive_failed, sent, receiving, sending}
+use Rattle.nbt_waits.specs.declared.tally.AskTally.{AskTally}
 use Rattle.nbt_asking.specs.declared.desk.Desk.{Desk}
 use Rattle.nbt_asking.specs.Desk.{ComesBack, HasNothing, Passes, Replies}
 
--- a port beneath, a source of ids, and what such a server has beside it
+-- a port beneath, a source of ids, what such a server has beside it, and what came of requests, counted
 pub record AskingPortValue (P I : Type 0) : Type 0 where
   pub port : P
   pub ids : I
   pub desk : Desk
+  pub tally : AskTally
 
 -- A call is one of the port beneath, or none.
 pub data AskingDoes {P I : Type 0} (does : P → PortCall → P → Type 0) (old : AskingPortValue P I) : PortCall → AskingPortValue P I → Type 0 where

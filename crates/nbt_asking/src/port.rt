@@ -12,7 +12,7 @@ ghost use Rattle.nbt_confirm.specs.Waiting.{waits_most};
 ghost use Rattle.nbt_waits.specs.Lapsing.{Follows, Wakes};
 ghost use Rattle.nbt_waits.specs.Looking.{aside};
 ghost use Rattle.nbt_waits.specs.Settling.{Serves, ServesSilence, holds_back};
-ghost use Rattle.nbt_asking.specs.Attending.{Attends, Begins, BeginsNone, DoesAll, DoesSo, GivesUp, IsActive, LooksAside, LooksAtClaim, LooksAtOutcome, LooksAtResponse, LooksAtTurn, Refuses, ReleasesNone, Repeats, exactly, most};
+ghost use Rattle.nbt_asking.specs.Attending.{Attends, Begins, BeginsNone, DoesAll, DoesSo, GivesUp, IsActive, LooksAside, LooksAtClaim, LooksAtOutcome, LooksAtResponse, LooksAtTurn, Refuses, ReleasesNone, Repeats, exactly, most, tallied};
 ghost use Rattle.nbt_asking.specs.Desk.{new_desk};
 ghost use Rattle.nbt_asking.specs.Inner.{IsIdle, IsLetBe, One};
 ghost use Rattle.nbt_asking.specs.Steps.{AsMany, NoneIsLeft};
@@ -59,13 +59,13 @@ impl<P, I> Model for AskingPort<P, I> {
 
     ghost Value = { AskingPortValue P I };
 
-    ghost view = { λ p. record { port = p.beneath; ids = p.ids; desk = p.desk } };
+    ghost view = { λ p. record { port = p.beneath; ids = p.ids; desk = p.desk; tally = p.notes } };
 }
 
 impl<P, I> AskingPort<P, I> {
     /// A port over this one, with a source of ids, and the notes of what comes.
     pub fn new(beneath: P, ids: I, asking: Asking, notes: Notes) -> AskingPort<P, I>
-        ensures { result ≡ record { port = beneath; ids = ids; desk = new_desk asking } }
+        ensures { result ≡ record { port = beneath; ids = ids; desk = new_desk asking; tally = notes } }
     {
         AskingPort {
             beneath,
@@ -76,9 +76,9 @@ impl<P, I> AskingPort<P, I> {
         }
     }
 
-    /// What was done is noted.
+    /// What was done is noted, and counted.
     fn note(&mut self, settled: Settled)
-        ensures { self.new ≡ self.old }
+        ensures { self.new ≡ record self.old { tally = tallied settled.note self.old.tally } }
     {
         if let Some(note) = settled.note {
             self.notes.put(note);
