@@ -85,6 +85,10 @@ too_many true asks begun some none = refl
 too_many false None begun some none = absurd cc
 too_many false (Some x) begun some none = absurd (let e : Some (begun x) ≡ None = none in cc)
 
+pub somebody_asks : {X : Type 0} (asks : Option X) → is_some asks ≡ true → (x : X) × (asks ≡ Some x)
+somebody_asks None some = absurd cc
+somebody_asks (Some x) some = (x, refl)
+
 pub nobody_asks : {X : Type 0} (asks : Option X) → is_some asks ≡ false → asks ≡ None
 nobody_asks None none = refl
 nobody_asks (Some x) none = absurd cc

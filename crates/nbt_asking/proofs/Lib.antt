@@ -10,3 +10,7 @@ pub mod Doing
 pub mod Looking
 -- nothing is done
 pub mod Idling
+-- what is done keeps what holds of each further address
+pub mod Keeping
+-- nothing can be done
+pub mod Resting

@@ -181,11 +181,12 @@ pub record Begins {P I : Type 0} (does : P → PortCall → P → Type 0) (draws
   pub drew : draws old.ids (Some id) ids
   pub began : DoesSo does (BeginsBy now id) (with_ids ids old) new
 
--- None begins: nobody is to be asked, no id was drawn, or so many are under way.
+-- None begins: nobody is to be asked; or no id was drawn, or so many are under way.
 pub data BeginsNone {P I : Type 0} (draws : I → Option ℕ → I → Type 0) (old : AskingPortValue P I) : AskingPortValue P I → Type 0 where
   nobody : next_to_ask old.desk.asking.waits ≡ None → BeginsNone draws old old
-  no_id : (ids : I) → draws old.ids None ids → BeginsNone draws old (with_ids ids old)
-  no_room : (id : ℕ) (ids : I) → draws old.ids (Some id) ids → waits_most ≤ length old.desk.asking.waits.pending → BeginsNone draws old (with_ids ids old)
+  no_id : (r : Request) (ids : I) → next_to_ask old.desk.asking.waits ≡ Some r → draws old.ids None ids → BeginsNone draws old (with_ids ids old)
+  no_room : (r : Request) (id : ℕ) (ids : I) → next_to_ask old.desk.asking.waits ≡ Some r → draws old.ids (Some id) ids → waits_most ≤ length old.desk.asking.waits.pending
+      → BeginsNone draws old (with_ids ids old)
 
 -- ---- all of it
 

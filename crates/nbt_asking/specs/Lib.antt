@@ -4,3 +4,4 @@ pub mod Ids
 pub mod Desk
 pub mod Port
 pub mod Attending
+pub mod Laws

@@ -10,6 +10,7 @@
 mod desk;
 mod flags;
 mod ids;
+pub mod laws;
 mod notes;
 mod port;
 mod sending;

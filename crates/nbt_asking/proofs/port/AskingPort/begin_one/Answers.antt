@@ -3,14 +3,16 @@ use Rattle.std.proofs.lemmas.Bool.{leb-true}
 use Rattle.nbt_confirm.specs.declared.waits.Pending.{Pending}
 use Rattle.nbt_confirm.specs.Waiting.{begun, next_begun, next_to_ask, waits_most, with_begun}
 use Rattle.nbt_asking.specs.Attending.{asks, no_id, no_room, nobody}
-use Rattle.nbt_asking.proofs.Doing.{asked, asks_none, asks_one, nobody_asks, too_many}
+use Rattle.nbt_asking.proofs.Doing.{asked, asks_none, asks_one, nobody_asks, somebody_asks, too_many}
 use Rattle.nbt_asking.proofs.port.AskingPort.begin_one.Goals as goal
 
 pub returns-then-not-wants_id : goal.returns-then-not-wants_id
 returns-then-not-wants_id g c = rw (← c.self.view_is) (nobody (nobody_asks (next_to_ask c.self.inside.desk.asking.waits) (sym c.wants_id.ensures ∙ c.if-not-wants_id.true)))
 
 pub returns-in_default : goal.returns-in_default
-returns-in_default g c = rw (← c.self.view_is) (no_id c.draw.new.self c.in_default.ensures)
+returns-in_default g c =
+    let one = somebody_asks (next_to_ask c.self.inside.desk.asking.waits) (sym c.wants_id.ensures ∙ c.if-not-wants_id.false) in
+    rw (← c.self.view_is) (no_id one.0 c.draw.new.self one.1 c.in_default.ensures)
 
 pub returns-in_default-begin : goal.returns-in_default-begin
 returns-in_default-begin g c =
@@ -18,7 +20,8 @@ returns-in_default-begin g c =
     let none = asks_none (next_begun c.args.now c.in-Some.id waits) c.begin.result c.begin.new.out.items c.begin.ensures.sends c.in_default-begin.is in
     let full : nat_le waits_most (length waits.pending) ≡ true =
     too_many (nat_le waits_most (length waits.pending)) (next_to_ask waits) (begun c.args.now c.in-Some.id) (sym c.wants_id.ensures ∙ c.if-not-wants_id.false) none in
-    rw (← c.self.view_is, c.begin.ensures.pending, none) (no_room c.in-Some.id c.draw.new.self c.in-Some.ensures (leb-true waits_most (length waits.pending) full))
+    let one = somebody_asks (next_to_ask waits) (sym c.wants_id.ensures ∙ c.if-not-wants_id.false) in
+    rw (← c.self.view_is, c.begin.ensures.pending, none) (no_room one.0 c.in-Some.id c.draw.new.self one.1 c.in-Some.ensures (leb-true waits_most (length waits.pending) full))
 
 pub returns : goal.returns
 returns g c =

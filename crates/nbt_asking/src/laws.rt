@@ -1,0 +1,27 @@
+//! What holds of all that is done between two turns, whatever the code does: laws over the definitions alone.
+
+ghost use Rattle.std.specs.Prelude.{◌≡◌, ℕ, Bool, List, Option, None, max};
+ghost use Rattle.nbt_name.specs.Wire.{NameValue};
+ghost use Rattle.nbt_log.specs.declared.entry.Entry.{Entry};
+ghost use Rattle.nbt_server.specs.Serving.{ServerValue};
+ghost use Rattle.nbt_waits.specs.Laws.{Are};
+ghost use Rattle.nbt_asking.specs.Attending.{Attends, at_time};
+ghost use Rattle.nbt_asking.specs.Laws.{AreConfirmed, HasNobody};
+ghost use Rattle.nbt_asking.specs.Port.{AskingPortValue};
+
+use crate::ids::Ids;
+use nbt_port::Port;
+
+/// Between two turns an address becomes a further one only where a response confirmed it, which the machine of the address that was asked
+/// sent, with the id and the name of the inquiry, and which lists it: what holds of each further address, and of each that is confirmed by
+/// what was set aside, holds of each afterwards.
+pub fn a_further_address_was_confirmed<P: Port, I: Ids>()
+    ensures { (holds : NameValue → ℕ → Bool) (server : ServerValue) (at : ℕ) (octets : List ℕ) (entry logged : Option Entry) (old new : AskingPortValue P I)
+        → Are holds old.desk.asking.further → AreConfirmed holds old.desk → Attends P.does I.draws server at octets entry logged old new → Are holds new.desk.asking.further }
+{}
+
+/// Where nothing was set aside, nothing waits and no address is a further one, nothing is done between two turns without a datagram.
+pub fn nothing_is_done_for_nobody<P: Port, I: Ids>()
+    ensures { (server : ServerValue) (at : ℕ) (octets : List ℕ) (logged : Option Entry) (old new : AskingPortValue P I)
+        → HasNobody old.desk → Attends P.does I.draws server at octets None logged old new → new ≡ at_time (max at server.last) old }
+{}
