@@ -1,10 +1,11 @@
 -- What is done between two turns keeps what holds of each further address, but for one that is confirmed.
-use Rattle.std.proofs.Common.{◌≡◌, ℕ, Bool, true, false, List, [], ◌∷◌, Option, Some, None, refl, sym, subst}
-use Rattle.std.specs.Prelude.{Contains, filter, nat_eq, slice_index_or}
+use Rattle.std.proofs.Common.{◌≡◌, ◌<◌, ℕ, Bool, true, false, List, [], ◌∷◌, Option, Some, None, refl, sym, subst}
+use Rattle.std.specs.Prelude.{◌^◌, Contains, filter, nat_eq, slice_index_or}
 use Rattle.std.specs.List.{list_any}
 use Rattle.std.proofs.lemmas.Bool.{eqb-true, eqb-false}
 use Rattle.std.proofs.lemmas.List.Folds.{Any-from_list_any}
 use Rattle.nbt_name.specs.Wire.{NameValue}
+use Rattle.nbt_name.specs.declared.addr.Addr.{Addr}
 use Rattle.nbt_lease.specs.Lease.{TableValue}
 use Rattle.nbt_port.specs.PortCalls.{PortCall}
 use Rattle.nbt_log.specs.declared.entry.Entry.{Entry}
@@ -14,7 +15,7 @@ use Rattle.nbt_confirm.specs.declared.inquiry.Inquiry.{Inquiry}
 use Rattle.nbt_confirm.specs.declared.outcome.Answer.TheVariants.{Silent}
 use Rattle.nbt_confirm.specs.declared.request.Came.{Came}
 use Rattle.nbt_confirm.specs.Further.{is_kept}
-use Rattle.nbt_confirm.specs.Inquiries.{ConfirmedValue, IsFurther, MachineValue}
+use Rattle.nbt_confirm.specs.Inquiries.{ConfirmedValue, Confirms, IsFurther, ListsItselfAlone, MachineValue}
 use Rattle.nbt_confirm.specs.Waiting.{answer_of, outcome_of}
 use Rattle.nbt_confirm.proofs.Confirming.{heard as was_confirmed}
 use Rattle.nbt_waits.specs.declared.asking.Asking.{Asking}
@@ -26,7 +27,7 @@ use Rattle.nbt_waits.specs.Looking.{aside}
 use Rattle.nbt_waits.specs.Settling.{Serves, ServesSilence, further_of, waited_for, waits_for}
 use Rattle.nbt_waits.proofs.Keeping.{follows_keeps, holds_back_keeps, passes_on_keeps, put_so, settles_keeps}
 use Rattle.nbt_asking.specs.Attending.{AttendsAt, Begins, BeginsNone, DoesAll, DoesSo, GivesUp, LooksAside, LooksAtClaim, LooksAtOutcome, LooksAtResponse, LooksAtTurn, Refuses, Repeats, answers, answers_none, at_claim, at_response, at_time, comes_back, heard, holds, leaves, left_before, lets_be, no_id, no_room, nobody, nothing_there, passes, refuses, swept, waits}
-use Rattle.nbt_asking.specs.Laws.{AreConfirmed}
+use Rattle.nbt_asking.specs.Laws.{AreConfirmed, ListsItsOwn}
 use Rattle.nbt_asking.specs.Port.{AskingPortValue}
 use Rattle.nbt_asking.specs.Steps.{AsMany, NoneIsLeft, Times, all, enough, none, one_more}
 
@@ -156,3 +157,18 @@ module _ (so : NameValue → ℕ → Bool) where
         let followed = all_keep _ (Follows table now) lapses_keep did.woken did.followed did.follows woken in
         let repeated = all_keep _ (Repeats now) repeats_keeps did.followed did.repeated did.repeats followed in
         many_keep Keep (Begins does draws now) (BeginsNone draws) begins_keeps _ begins_none_keeps did.repeated new did.begins repeated
+
+-- nothing holds of a further address only where there is none
+abbrev pub never : NameValue → ℕ → Bool
+never name addr = false
+
+none_is : (rows : List Further) → Are never rows → rows ≡ []
+none_is [] are = refl
+none_is (row ∷ rows) are = absurd (let e : false ≡ true = are.0 in cc)
+
+pub none_put : {P I : Type 0} (does : P → PortCall → P → Type 0) (draws : I → Option ℕ → I → Type 0) (table : TableValue) (now : ℕ) (octets : List ℕ) (entry logged : Option Entry) (old new : AskingPortValue P I)
+    → ((i : Inquiry) (from : Addr) (octets : List ℕ) (machine : MachineValue) (c : ConfirmedValue) → from.ip < 2 ^ 32 → ListsItselfAlone from octets → Confirms i from octets machine → ¬ IsFurther machine c)
+    → old.desk.asking.further ≡ [] → ListsItsOwn old.desk → AttendsAt does draws table now octets entry logged old new → new.desk.asking.further ≡ []
+none_put does draws table now octets entry logged old new law empty own did =
+    let confirmed : AreConfirmed never old.desk = λ c octets p machine f was there confirms further. let lists = own c octets p machine was confirms in absurd (law p.inquiry c.from octets machine f lists.0 lists.1 confirms further) in
+    none_is new.desk.asking.further (attends_keeps never does draws table now octets entry logged old new confirmed did (subst (Are never) (sym empty) tt))

@@ -1,12 +1,12 @@
 //! What holds of all that is done between two turns, whatever the code does: laws over the definitions alone.
 
-ghost use Rattle.std.specs.Prelude.{◌≡◌, ℕ, Bool, List, Option, None, max};
+ghost use Rattle.std.specs.Prelude.{◌≡◌, ℕ, Bool, List, [], Option, None, max};
 ghost use Rattle.nbt_name.specs.Wire.{NameValue};
 ghost use Rattle.nbt_log.specs.declared.entry.Entry.{Entry};
 ghost use Rattle.nbt_server.specs.Serving.{ServerValue};
 ghost use Rattle.nbt_waits.specs.Laws.{Are};
 ghost use Rattle.nbt_asking.specs.Attending.{Attends, at_time};
-ghost use Rattle.nbt_asking.specs.Laws.{AreConfirmed, HasNobody};
+ghost use Rattle.nbt_asking.specs.Laws.{AreConfirmed, HasNobody, ListsItsOwn};
 ghost use Rattle.nbt_asking.specs.Port.{AskingPortValue};
 
 use crate::ids::Ids;
@@ -19,6 +19,14 @@ pub fn a_further_address_was_confirmed<P: Port, I: Ids>()
     ensures { (holds : NameValue → ℕ → Bool) (server : ServerValue) (at : ℕ) (octets : List ℕ) (entry logged : Option Entry) (old new : AskingPortValue P I)
         → Are holds old.desk.asking.further → AreConfirmed holds old.desk → Attends P.does I.draws server at octets entry logged old new → Are holds new.desk.asking.further }
 {}
+
+/// A server whose machines list their own address alone, as our nodes do, has no further address: between two turns none is put.
+pub fn our_nodes_have_no_further_address<P: Port, I: Ids>()
+    ensures { (server : ServerValue) (at : ℕ) (octets : List ℕ) (entry logged : Option Entry) (old new : AskingPortValue P I)
+        → old.desk.asking.further ≡ [] → ListsItsOwn old.desk → Attends P.does I.draws server at octets entry logged old new → new.desk.asking.further ≡ [] }
+{
+    nbt_confirm::laws::a_node_of_ours_has_no_further_address();
+}
 
 /// Where nothing was set aside, nothing waits and no address is a further one, nothing is done between two turns without a datagram.
 pub fn nothing_is_done_for_nobody<P: Port, I: Ids>()
