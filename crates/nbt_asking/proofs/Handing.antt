@@ -10,7 +10,7 @@ use Rattle.nbt_waits.specs.Looking.{IsAside, IsBack, Kept, nothing, aside, back}
 use Rattle.nbt_waits.specs.Sending.{held_back, left_by, leaves_with}
 use Rattle.nbt_asking.specs.declared.desk.Desk.{Desk}
 use Rattle.nbt_asking.specs.Desk.{ComesBack, IsQuiet, LeavesAs, Passes, Replies, any_under_way, came_by, handed, hands_on, is_granted, leaves_as, looked_at, nothing_came, octets_by, route_of, sets_aside}
-use Rattle.nbt_asking.specs.Inner.{TakesGranted}
+use Rattle.nbt_asking.specs.Inner.Doing.{TakesGranted}
 
 pub looked_back : (old new : Desk) (came : Came) (octets : List ℕ) (route : Route) (kept : Kept) → old.aside ≡ back came octets → kept ≡ nothing → new ≡ handed came (record old { aside = kept }) → route ≡ route_of came → ComesBack old route octets new
 looked_back old new came octets route kept was is_nothing is by = rw (by, is, is_nothing) (looked_at came octets was)

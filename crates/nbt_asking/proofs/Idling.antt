@@ -12,7 +12,7 @@ use Rattle.nbt_confirm.specs.Further.{kept_at}
 use Rattle.nbt_confirm.specs.Waiting.{is_asking, is_past, is_to_repeat, is_unanswered, is_under_way}
 use Rattle.nbt_waits.specs.Lapsing.{is_over}
 use Rattle.nbt_asking.specs.Attending.{AttendsAt, LooksAtTurn, at_time, lets_be, nobody, nothing_there, swept}
-use Rattle.nbt_asking.specs.Inner.{IsIdle, IsLetBe}
+use Rattle.nbt_asking.specs.Inner.Doing.{IsIdle, IsLetBe}
 use Rattle.nbt_asking.specs.Port.{AskingPortValue}
 use Rattle.nbt_asking.specs.Steps.{all, none}
 use Rattle.nbt_asking.proofs.Doing.{not_both}

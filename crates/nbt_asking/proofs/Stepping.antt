@@ -1,6 +1,6 @@
 -- Steps, one after the other.
 use Rattle.std.proofs.Common.{◌≡◌, ℕ, ◌+◌, ◌≤◌, Bool, true, false, subst}
-use Rattle.nbt_asking.specs.Inner.{One}
+use Rattle.nbt_asking.specs.Inner.Doing.{One}
 use Rattle.nbt_asking.specs.Steps.{AsMany, Times, all, enough, one_more}
 
 module _ {S : Type 0} (step ends : S → S → Type 0) where

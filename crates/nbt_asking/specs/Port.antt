@@ -14,12 +14,12 @@ pub record AskingPortValue (P I : Type 0) : Type 0 where
   pub desk : Desk
   pub tally : AskTally
 
--- A call is one of the port beneath, or none.
-pub data AskingDoes {P I : Type 0} (does : P → PortCall → P → Type 0) (old : AskingPortValue P I) : PortCall → AskingPortValue P I → Type 0 where
-  comes_back : (from : Route) (octets : List ℕ) (desk : Desk) → ComesBack old.desk from octets desk → AskingDoes does old (came from octets) (record old { desk = desk })
-  passes : (from to_server : Option Route) (flags : ℕ) (octets out : List ℕ) (port : P) (desk : Desk) → HasNothing old.desk → does old.port (receiving (Ok from) octets) port
-      → Passes old.desk flags from octets to_server out desk → AskingDoes does old (receiving (Ok to_server) out) (record old { port = port; desk = desk })
-  fails : (port : P) → HasNothing old.desk → does old.port receive_failed port → AskingDoes does old receive_failed (record old { port = port })
-  holds_back : (to : Route) (octets : List ℕ) (desk : Desk) → Replies old.desk to octets None desk → AskingDoes does old (sent to octets) (record old { desk = desk })
+-- A call is one of the port beneath, which tells the flags of what it received, or none.
+pub data AskingDoes {P I : Type 0} (does : P → PortCall → P → Type 0) (told : P → ℕ) (old : AskingPortValue P I) : PortCall → AskingPortValue P I → Type 0 where
+  comes_back : (from : Route) (octets : List ℕ) (desk : Desk) → ComesBack old.desk from octets desk → AskingDoes does told old (came from octets) (record old { desk = desk })
+  passes : (from to_server : Option Route) (octets out : List ℕ) (port : P) (desk : Desk) → HasNothing old.desk → does old.port (receiving (Ok from) octets) port
+      → Passes old.desk (told port) from octets to_server out desk → AskingDoes does told old (receiving (Ok to_server) out) (record old { port = port; desk = desk })
+  fails : (port : P) → HasNothing old.desk → does old.port receive_failed port → AskingDoes does told old receive_failed (record old { port = port })
+  holds_back : (to : Route) (octets : List ℕ) (desk : Desk) → Replies old.desk to octets None desk → AskingDoes does told old (sent to octets) (record old { desk = desk })
   leaves : (result : Result (Unit {0}) Device) (to : Route) (octets out : List ℕ) (port : P) (desk : Desk) → Replies old.desk to octets (Some out) desk → does old.port (sending to out result) port
-      → AskingDoes does old (sending to octets result) (record old { port = port; desk = desk })
+      → AskingDoes does told old (sending to octets result) (record old { port = port; desk = desk })

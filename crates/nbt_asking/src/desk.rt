@@ -6,7 +6,7 @@ ghost use Rattle.nbt_packet.specs.Message.{registration};
 ghost use Rattle.nbt_packet.specs.Text.{text};
 ghost use Rattle.nbt_waits.specs.Asking.{came_of, claim_of};
 ghost use Rattle.nbt_asking.specs.Desk.{ComesBack, HasNothing, IsQuiet, Passes, Replies, any_under_way, handed, new_desk, octets_by, route_of};
-ghost use Rattle.nbt_asking.specs.Inner.{TakesGranted};
+ghost use Rattle.nbt_asking.specs.Inner.Doing.{TakesGranted};
 
 use arrayvec::ArrayVec;
 use nbt_confirm::{Came, Pending};

@@ -1,7 +1,8 @@
 //! With which flags a datagram came, before another port changed them.
 
-ghost use Rattle.std.specs.Prelude.{◌≡◌, Ok};
+ghost use Rattle.std.specs.Prelude.{◌≡◌, ℕ, Ok};
 ghost use Rattle.nbt_port.specs.PortCalls.{receiving, sending, CountsFailure};
+ghost use Rattle.nbt_asking.specs.Flags.{FlagsDoes, flags_in};
 
 use arrayvec::ArrayVec;
 use nbt_front::FrontPort;
@@ -19,12 +20,16 @@ const FLAGS_END: usize = 4;
 
 /// What knows with which flags the last datagram came.
 pub trait TellsFlags {
+    /// Those flags.
+    ghost told: { Self → ℕ };
+
     /// The word of R, OPCODE, NM_FLAGS and RCODE that it had, or 0 if it was too short for one.
-    fn flags(&self) -> u16;
+    fn flags(&self) -> u16
+        ensures { result ≡ told self.now };
 }
 
 /// A port over another, which hands on what that one receives and sends what it is given, and remembers the flags of the last
-/// datagram. A contract sees of it the port beneath.
+/// datagram.
 #[derive(Drop)]
 pub struct FlagsPort<P> {
     beneath: P,
@@ -32,37 +37,41 @@ pub struct FlagsPort<P> {
 }
 
 impl<P> Model for FlagsPort<P> {
-    ghost Value = { P };
+    ghost use Rattle.nbt_asking.specs.Flags.{FlagsPortValue};
 
-    ghost view = { λ p. p.beneath };
+    ghost Value = { FlagsPortValue P };
+
+    ghost view = { λ p. record { port = p.beneath; flags = p.flags } };
 }
 
 impl<P> FlagsPort<P> {
     /// A port over this one.
     pub fn new(beneath: P) -> FlagsPort<P>
-        ensures { result ≡ beneath }
+        ensures { result ≡ record { port = beneath; flags = 0 } }
     {
         FlagsPort { beneath, flags: 0 }
     }
 
     /// The port beneath.
     pub fn beneath(&self) -> &P
-        ensures { result.now ≡ self.now }
+        ensures { result.now ≡ self.now.port }
     {
         &self.beneath
     }
 }
 
 impl<P> TellsFlags for FlagsPort<P> {
+    ghost told = { λ p. p.flags };
+
     fn flags(&self) -> u16 {
         self.flags
     }
 }
 
 impl<P: Port> Port for FlagsPort<P> {
-    ghost does = { P.does };
+    ghost does = { FlagsDoes P.does };
 
-    ghost failures = { P.failures };
+    ghost failures = { λ p. P.failures p.port };
 
     fn receive(&mut self, octets: &mut ArrayVec<u8, 2048>) -> Result<Option<Route>, Device> {
         let from = self.beneath.receive(octets)?;
@@ -102,19 +111,25 @@ impl<P: Port> Port for FlagsPort<P> {
 }
 
 impl<P: TellsFlags> TellsFlags for SambaPort<P> {
+    ghost told = { P.told };
+
     fn flags(&self) -> u16 {
         self.beneath().flags()
     }
 }
 
 impl<P: TellsFlags, C> TellsFlags for FrontPort<'_, P, C> {
+    ghost told = { λ p. P.told p.port };
+
     fn flags(&self) -> u16 {
         self.beneath().flags()
     }
 }
 
 /// The word of flags of these octets; 0 if they have none.
-fn flags_of(octets: &[u8]) -> u16 {
+fn flags_of(octets: &[u8]) -> u16
+    ensures { result ≡ flags_in octets.now }
+{
     if octets.len() < FLAGS_END {
         return 0;
     }

@@ -14,7 +14,7 @@ ghost use Rattle.nbt_waits.specs.Looking.{aside};
 ghost use Rattle.nbt_waits.specs.Settling.{Serves, ServesSilence, holds_back};
 ghost use Rattle.nbt_asking.specs.Attending.{Attends, Begins, BeginsNone, DoesAll, DoesSo, GivesUp, IsActive, LooksAside, LooksAtClaim, LooksAtOutcome, LooksAtResponse, LooksAtTurn, Refuses, ReleasesNone, Repeats, exactly, most, tallied};
 ghost use Rattle.nbt_asking.specs.Desk.{new_desk};
-ghost use Rattle.nbt_asking.specs.Inner.{IsIdle, IsLetBe, One};
+ghost use Rattle.nbt_asking.specs.Inner.Doing.{IsIdle, IsLetBe, One};
 ghost use Rattle.nbt_asking.specs.Steps.{AsMany, NoneIsLeft};
 
 use crate::desk::Desk;
@@ -425,7 +425,7 @@ impl<P: Port + TellsFlags, I: Ids> AskingPort<P, I> {
 impl<P: Port + TellsFlags, I: Ids> Port for AskingPort<P, I> {
     ghost use Rattle.nbt_asking.specs.Port.{AskingDoes};
 
-    ghost does = { AskingDoes P.does };
+    ghost does = { AskingDoes P.does P.told };
 
     ghost failures = { λ p. P.failures p.port };
 

@@ -14,5 +14,5 @@ returns-in_err-from-clause-does g c =
 pub returns-clause-does : goal.returns-clause-does
 returns-clause-does g c =
     let none = c.in_default.ensures.none in
-    let passed = rw none.1 at c.pass.ensures in
-    rw (← c.self.view_is) (passes c.in_ok-from.from c.pass.result c.flags-flags.result c.receive.new.octets.items c.pass.new.octets.items c.receive.new.self c.pass.new.self none.0 c.in_ok-from.ensures.does passed)
+    let passed = rw (none.1, c.flags-flags.ensures) at c.pass.ensures in
+    rw (← c.self.view_is) (passes c.in_ok-from.from c.pass.result c.receive.new.octets.items c.pass.new.octets.items c.receive.new.self c.pass.new.self none.0 c.in_ok-from.ensures.does passed)
