@@ -83,20 +83,22 @@ DoesAll most does what = AsMany most (DoesSo does what) (NoneIsLeft (DoesSo does
 
 -- ---- what was set aside
 
--- a claim that came so is looked at: it waits for what its sender says, or it comes to the server
+-- A claim that came so is looked at: it waits for what its sender says, or it comes to the server.
 pub data LooksAtClaim {P I : Type 0} (table : TableValue) (now : ℕ) (c : Came) (octets : List ℕ) (old : AskingPortValue P I) : AskingPortValue P I → Type 0 where
   waits : (done : Done) → LooksFirst table now c octets old.desk.asking done → LooksAtClaim table now c octets old (record old { desk = record old.desk { aside = nothing; asking = done.asking }; tally = tallied done.note old.tally })
   comes_back : ((done : Done) → ¬ LooksFirst table now c octets old.desk.asking done) → LooksAtClaim table now c octets old (record old { desk = record old.desk { aside = back c octets } })
 
+-- a response is looked at, after which these inquiries are under way
 abbrev pub heard : {P I : Type 0} → List Pending → AskingPortValue P I → AskingPortValue P I
 heard pending old = record old { desk = record old.desk { aside = nothing; asking = with_pending pending old.desk.asking } }
 
--- a response that came so is heard: it answers an inquiry, and the requests are served that waited for it; or nobody has it
+-- A response that came so is heard: it answers an inquiry, and the requests are served that waited for that; or it comes to nobody.
 pub data LooksAtResponse {P I : Type 0} (does : P → PortCall → P → Type 0) (table : TableValue) (now : ℕ) (c : Came) (octets : List ℕ) (old : AskingPortValue P I) : AskingPortValue P I → Type 0 where
   answers : (machine : MachineValue) (pending : List Pending) (new : AskingPortValue P I) → Hears c.from octets old.desk.asking.waits.pending (Some machine) pending
       → DoesAll waits_most does (Serves table now machine) (heard pending old) new → LooksAtResponse does table now c octets old new
   answers_none : (pending : List Pending) → Hears c.from octets old.desk.asking.waits.pending None pending → LooksAtResponse does table now c octets old (heard pending old)
 
+-- What was set aside is looked at, if something was: a request as a claim, all else as a response.
 pub data LooksAside {P I : Type 0} (does : P → PortCall → P → Type 0) (table : TableValue) (now : ℕ) (old : AskingPortValue P I) : AskingPortValue P I → Type 0 where
   nothing_there : ¬ IsLookedAt old.desk.aside → LooksAside does table now old old
   at_claim : (c : Came) (octets : List ℕ) (new : AskingPortValue P I) → old.desk.aside ≡ aside c octets → IsRequest c.flags → LooksAtClaim table now c octets old new → LooksAside does table now old new
@@ -171,6 +173,7 @@ pub record BeginsBy (now id : ℕ) (old : Asking) (done : Done) : Type 0 where
   pub is_next : next_begun now id old.waits ≡ Some p
   pub done_is : done ≡ asks p.inquiry (old.waits.pending ++ p ∷ []) old
 
+-- ids were drawn
 abbrev pub with_ids : {P I : Type 0} → I → AskingPortValue P I → AskingPortValue P I
 with_ids ids old = record old { ids = ids }
 
