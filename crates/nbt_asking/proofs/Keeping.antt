@@ -6,8 +6,11 @@ use Rattle.std.proofs.lemmas.Bool.{eqb-true, eqb-false}
 use Rattle.std.proofs.lemmas.List.Folds.{Any-from_list_any}
 use Rattle.nbt_name.specs.Wire.{NameValue}
 use Rattle.nbt_name.specs.declared.addr.Addr.{Addr}
+use Rattle.nbt_packet.specs.Message.{MessageValue}
+use Rattle.nbt_packet.specs.Spelling.{Spells}
 use Rattle.nbt_lease.specs.Lease.{TableValue}
 use Rattle.nbt_port.specs.PortCalls.{PortCall}
+use Rattle.nbt_port.specs.declared.port.Route.{Route}
 use Rattle.nbt_log.specs.declared.entry.Entry.{Entry}
 use Rattle.nbt_server.specs.declared.outcome.Outcome.{Outcome}
 use Rattle.nbt_confirm.specs.declared.further.Further.{Further}
@@ -24,11 +27,15 @@ use Rattle.nbt_waits.specs.Doing.{Done}
 use Rattle.nbt_waits.specs.Lapsing.{Follows, Wakes}
 use Rattle.nbt_waits.specs.Laws.{Are, IsConfirmed}
 use Rattle.nbt_waits.specs.Looking.{aside}
+use Rattle.nbt_waits.specs.Sending.{Left}
 use Rattle.nbt_waits.specs.Settling.{Serves, ServesSilence, further_of, waited_for, waits_for}
-use Rattle.nbt_waits.proofs.Keeping.{follows_keeps, holds_back_keeps, passes_on_keeps, put_so, settles_keeps}
+use Rattle.nbt_waits.proofs.Keeping.{follows_keeps, holds_back_keeps, leaves_keeps, passes_on_keeps, put_so, settles_keeps}
 use Rattle.nbt_asking.specs.Attending.{AttendsAt, Begins, BeginsNone, DoesAll, DoesSo, GivesUp, LooksAside, LooksAtClaim, LooksAtOutcome, LooksAtResponse, LooksAtTurn, Refuses, Repeats, answers, answers_none, at_claim, at_response, at_time, comes_back, heard, holds, leaves, left_before, lets_be, no_id, no_room, nobody, nothing_there, passes, refuses, swept, waits}
 use Rattle.nbt_asking.specs.Laws.{AreConfirmed, ListsItsOwn}
-use Rattle.nbt_asking.specs.Port.{AskingPortValue}
+use Rattle.nbt_asking.specs.declared.desk.Desk.{Desk}
+use Rattle.nbt_asking.specs.Desk.{ComesBack, Passes, Replies, hands_on, is_granted, is_quiet, leaves_as, looked_at, nothing_came, sets_aside}
+use Rattle.nbt_asking.specs.Port.{AskingDoes, AskingPortValue}
+use Rattle.nbt_asking.specs.Port as calls
 use Rattle.nbt_asking.specs.Steps.{AsMany, NoneIsLeft, Times, all, enough, none, one_more}
 
 finds_one : (addrs : List ℕ) (addr : ℕ) → list_any (λ other. nat_eq other addr) addrs ≡ true → Contains addrs addr
@@ -158,6 +165,41 @@ module _ (so : NameValue → ℕ → Bool) where
         let repeated = all_keep _ (Repeats now) repeats_keeps did.followed did.repeated did.repeats followed in
         many_keep Keep (Begins does draws now) (BeginsNone draws) begins_keeps _ begins_none_keeps did.repeated new did.begins repeated
 
+-- ---- calls of the port
+
+-- what isn't refuted of further addresses holds of them
+module _ (so : NameValue → ℕ → Bool) where
+  is_true : (b : Bool) → ((b ≡ true → ⊥) → ⊥) → b ≡ true
+  is_true true unrefuted = refl
+  is_true false unrefuted = absurd (unrefuted (λ (e : false ≡ true). absurd cc))
+
+  are_so : (rows : List Further) → ((Are so rows → ⊥) → ⊥) → Are so rows
+  are_so [] unrefuted = tt
+  are_so (row ∷ rows) unrefuted = (is_true (so row.name row.addr) (λ not_so. unrefuted (λ are. not_so are.0)), are_so rows (λ not_so. unrefuted (λ are. not_so are.1)))
+
+  replies_keep : (old new : Desk) (to : Route) (octets : List ℕ) (out : Option (List ℕ)) → Replies old to octets out new → Are so old.asking.further → Are so new.asking.further
+  replies_keep old new to octets out (is_quiet quiet) are = are
+  replies_keep old new to octets out (leaves_as left loud reply) are = are_so left.further (λ not_so.
+      let unspelled : (m : MessageValue) → ¬ Spells octets m = λ m spelled.
+      not_so (subst (λ (l : Left). Are so l.further) (sym (reply.by_message m spelled)) (leaves_keeps (RowIs so) (λ row holder until end row_is. row_is) old.at to.peer.ip octets old.asking.further m are)) in
+      not_so (subst (λ (l : Left). Are so l.further) (sym (reply.by_nothing unspelled)) are))
+
+  back_keeps : (old new : Desk) (from : Route) (octets : List ℕ) → ComesBack old from octets new → Are so old.asking.further → Are so new.asking.further
+  back_keeps old new from octets (looked_at c _ was) are = are
+  back_keeps old new from octets (is_granted r others none_back was) are = are
+
+  pass_keeps : (old new : Desk) (flags : ℕ) (from to_server : Option Route) (octets out : List ℕ) → Passes old flags from octets to_server out new → Are so old.asking.further → Are so new.asking.further
+  pass_keeps old new flags from to_server octets out (nothing_came _) are = are
+  pass_keeps old new flags from to_server octets out (sets_aside route _ is) are = are
+  pass_keeps old new flags from to_server octets out (hands_on route _ is) are = are
+
+  pub call_keeps : {P I : Type 0} (does : P → PortCall → P → Type 0) (told : P → ℕ) (old : AskingPortValue P I) (call : PortCall) (new : AskingPortValue P I) → AskingDoes does told old call new → Are so old.desk.asking.further → Are so new.desk.asking.further
+  call_keeps does told old call new (calls.comes_back from octets desk back) are = back_keeps old.desk desk from octets back are
+  call_keeps does told old call new (calls.passes from to_server octets out port desk nothing_back did pass) are = pass_keeps old.desk desk (told port) from to_server octets out pass are
+  call_keeps does told old call new (calls.fails port nothing_back did) are = are
+  call_keeps does told old call new (calls.holds_back to octets desk reply) are = replies_keep old.desk desk to octets None reply are
+  call_keeps does told old call new (calls.leaves result to octets out port desk reply did) are = replies_keep old.desk desk to octets (Some out) reply are
+
 -- nothing holds of a further address only where there is none
 abbrev pub never : NameValue → ℕ → Bool
 never name addr = false
@@ -172,3 +214,6 @@ pub none_put : {P I : Type 0} (does : P → PortCall → P → Type 0) (draws : 
 none_put does draws table now octets entry logged old new law empty own did =
     let confirmed : AreConfirmed never old.desk = λ c octets p machine f was there confirms further. let lists = own c octets p machine was confirms in absurd (law p.inquiry c.from octets machine f lists.0 lists.1 confirms further) in
     none_is new.desk.asking.further (attends_keeps never does draws table now octets entry logged old new confirmed did (subst (Are never) (sym empty) tt))
+
+pub none_called : {P I : Type 0} (does : P → PortCall → P → Type 0) (told : P → ℕ) (old : AskingPortValue P I) (call : PortCall) (new : AskingPortValue P I) → old.desk.asking.further ≡ [] → AskingDoes does told old call new → new.desk.asking.further ≡ []
+none_called does told old call new empty did = none_is new.desk.asking.further (call_keeps never does told old call new did (subst (Are never) (sym empty) tt))
