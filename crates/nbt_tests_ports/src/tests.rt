@@ -1,6 +1,7 @@
 //! One file for each subject.
 
 mod addresses;
+mod asking;
 mod expect;
 mod front_files;
 mod host;
