@@ -534,13 +534,14 @@ fn play_part<R: Abort + AllocGlobal>(
         let mut entry = turned.entry;
         let now = Hand(time).now();
         port.attend(server, now, came.as_slice(), &mut entry);
-        let left = &sent(port)[before..];
+        let all = sent(port);
+        expect(rt, before <= all.len());
+        let left = &all[before..];
         expect_eq_in(rt, turn, &left.len(), &leaves.len());
-        for n in 0..leaves.len() {
-            let (ip, words) = leaves[n];
+        for (datagram, (ip, words)) in left.iter().zip(leaves.iter()) {
             let wanted = octets(rt, words).expect(rt, "octets");
-            expect_eq_in(rt, turn, &left[n].octets.as_slice(), &wanted.as_slice());
-            expect_eq_in(rt, turn, &left[n].route, &route(ip));
+            expect_eq_in(rt, turn, &datagram.octets.as_slice(), &wanted.as_slice());
+            expect_eq_in(rt, turn, &datagram.route, &route(*ip));
         }
     }
     expect(rt, port.failures() == 0);
